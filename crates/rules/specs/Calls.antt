@@ -1,0 +1,270 @@
+-- Steps of messages: 3 invoke, 11 deliver, 12 drop. Assumes nothing.
+-- xChecks: the refusals in their order. xDone: the answer and the records. xOf: the same, where a refusal keeps what was seen.
+use Prim.Native.Nat.{ℕ, _+_, _%_}
+use mathlib.Core.Bool.{Bool, true, false, cond, not, _&&_, _||_}
+use mathlib.Core.List.{List, [], _∷_}
+use lib.Dec.{leb, ltb, eqb}
+use lib.ListN.{getD, set}
+use Rattle.rules.specs.Types.{Object, Figures, Visit, Call, Asked, Told, Body, Message, Refusal, Check, Seen, Decision}
+use Rattle.rules.specs.Limits.{widthMost, countMost}
+use Rattle.rules.specs.Tables.{objectSite, slotOf, pastObject, noMessage}
+use Rattle.rules.specs.Answers.{refuse, firstOf, settleOf}
+use Rattle.rules.specs.Parts.{clockTo, nextClock, deliveryClock, isPhaseOne, withStatus, withRound, whereThere, newVisit, countSent, countReceived, isHeldByOther, taken, operated, withAnswer, askedVisit, askedStatus, toldVisit, toldObjects, toldStatus, asksLife, tellsLife, plainMessage, answerMessage}
+use Rattle.rules.specs.Checks.{badSite, badHandle, badMessage, noPassage, noMail, siteDown, visitMissing, clockFull, isFull}
+
+-- ---- 3. invoke h, a=site, b=0 read or 1 write, c=object, u=value (0 for read). Value: message slot.
+
+-- "the object's site". (An object past 31 is refused by 2 before its site matters.)
+abbrev pub callSite : ℕ → ℕ
+callSite object = objectSite object % 8
+
+-- 2: "a field .. out of range, read with u not 0"
+abbrev pub badCall : ℕ → ℕ → ℕ → ℕ → ℕ → Bool
+badCall h site write object value =
+    badHandle h || badSite site || ltb 1 write || ltb 31 object || ltb widthMost value
+    || (eqb write 0 && not (eqb value 0))
+
+-- 8: "invoke ..: clock ≥ Q ..; invoke ..: visit dead". 11: "no empty message slot ..; call count (sent for invoke ..) .. at 1,000"
+abbrev pub invokeChecks : ℕ → ℕ → ℕ → ℕ → ℕ → Seen → List Check
+invokeChecks h site write object value seen =
+    refuse Refusal.BadField (badCall h site write object value) ∷ noPassage h seen ∷ siteDown seen
+    ∷ visitMissing seen
+    ∷ clockFull (nextClock (seen .site))
+    ∷ refuse
+    Refusal.Quiesced
+    (leb (seen .visit .quiesce) (nextClock (seen .site)) || seen .visit .dead)
+    ∷ refuse
+    Refusal.Full
+    (isFull seen || leb countMost (getD (seen .visit .sent) (callSite object) 0))
+    ∷ []
+
+-- "a call goes out with the visit's Q, R and round"
+abbrev pub callOf : ℕ → ℕ → ℕ → Visit → Call
+callOf write object value v =
+    record {
+      quiesce = v .quiesce;
+      release = v .release;
+      round = v .round;
+      object = object;
+      write = eqb write 1;
+      value = value;
+    }
+
+abbrev pub invokeDone : ℕ → ℕ → ℕ → ℕ → ℕ → ℕ → Seen → Decision
+invokeDone h site write object value place seen =
+    record {
+      answer = firstOf (invokeChecks h site write object value seen) place;
+      left =
+          record {
+            site = clockTo (seen .site) (nextClock (seen .site));
+            passage = seen .passage;
+            visit = countSent (seen .visit) (callSite object);
+            message =
+                plainMessage
+                (Body.Call (callOf write object value (seen .visit)))
+                site
+                (callSite object)
+                h
+                (nextClock (seen .site));
+            objects = seen .objects;
+          };
+    }
+
+unfoldable pub invokeOf : ℕ → ℕ → ℕ → ℕ → ℕ → ℕ → Seen → Decision
+invokeOf h site write object value place seen =
+    settleOf (invokeDone h site write object value place seen) seen
+
+-- ---- 11. deliver c=message. "After 20, 1 and 2, deliver tries 3, 4, 6, 7, 8, 9, 10, 11."
+-- The clock moves to 1 + max(clock, stamp); "handle (only its slot is looked at)".
+
+abbrev pub mailClock : Seen → ℕ
+mailClock seen = deliveryClock (seen .site) (seen .message)
+
+abbrev pub mailSlot : Seen → ℕ
+mailSlot seen = slotOf (seen .message .handle)
+
+-- is the message delivered at its passage's own home? (In a run only answers and calls are.)
+abbrev pub atHome : Seen → Bool
+atHome seen = eqb (seen .message .destination) (seen .passage .home)
+
+-- an empty slot: 2, then 3
+abbrev pub emptyDone : ℕ → Seen → Decision
+emptyDone m seen =
+    record {
+      answer = firstOf (refuse Refusal.BadField (badMessage m) ∷ noMail seen ∷ []) 0;
+      left = seen;
+    }
+
+unfoldable pub emptyOf : ℕ → Seen → Decision
+emptyOf m seen = settleOf (emptyDone m seen) seen
+
+-- "Delivered call. With a visit: its own Q, R and round stay. Without: one is made from the message's Q, R and round, no calls sent, no marks."
+abbrev pub calledVisit : Call → Visit → Visit
+calledVisit c v = cond (v .there) v (newVisit (c .quiesce) (c .release) (c .round))
+
+-- the object that the call is for, among the four of its site
+abbrev pub calledObject : Call → Seen → Object
+calledObject c seen = getD (seen .objects) (c .object % 4) pastObject
+
+-- 8: "delivered call: clock ≥ Q (.. the visit's, else the message's) ..: visit dead". 10: "object held by another passage". 11: "received for a delivered call"
+abbrev pub callChecks : ℕ → Call → Seen → List Check
+callChecks m c seen =
+    refuse Refusal.BadField (badMessage m) ∷ siteDown seen ∷ clockFull (mailClock seen)
+    ∷ refuse
+    Refusal.Quiesced
+    (leb (calledVisit c (seen .visit) .quiesce) (mailClock seen)
+    || calledVisit c (seen .visit) .dead)
+    ∷ refuse Refusal.Held (isHeldByOther (mailSlot seen) (calledObject c seen .holder))
+    ∷ refuse Refusal.Full (leb countMost (calledVisit c (seen .visit) .received))
+    ∷ []
+
+-- "Received grows by 1. The object is taken if unheld, then read or written. Value: the object's value before the operation."
+abbrev pub callDone : ℕ → Call → Seen → Decision
+callDone m c seen =
+    record {
+      answer = firstOf (callChecks m c seen) (calledObject c seen .value);
+      left =
+          record {
+            site = clockTo (seen .site) (mailClock seen);
+            passage = seen .passage;
+            visit = countReceived (calledVisit c (seen .visit));
+            message = noMessage;
+            objects =
+                set
+                (seen .objects)
+                (c .object % 4)
+                (operated c (taken (mailSlot seen) (calledObject c seen)));
+          };
+    }
+
+unfoldable pub deliverCallOf : ℕ → Call → Seen → Decision
+deliverCallOf m c seen = settleOf (callDone m c seen) seen
+
+-- what a delivered phase 1 or phase 2 message tries. 8: "delivered refresh or prepare message of either phase: visit dead"
+abbrev pub roundChecks : ℕ → Bool → Bool → Seen → List Check
+roundChecks m life wrong seen =
+    refuse Refusal.BadField (badMessage m) ∷ siteDown seen ∷ visitMissing seen
+    ∷ clockFull (mailClock seen)
+    ∷ refuse Refusal.Quiesced (life && seen .visit .dead)
+    ∷ refuse Refusal.WrongRound wrong
+    ∷ []
+
+-- 9: "delivered phase 1: number ≤ the visit's".
+-- "Away from home the message's slot then holds the answer, sent back to home"
+abbrev pub phaseOneDone : ℕ → ℕ → Asked → Seen → Decision
+phaseOneDone m n asked seen =
+    record {
+      answer = firstOf (roundChecks m (asksLife asked) (leb n (seen .visit .round)) seen) 0;
+      left =
+          record {
+            site = clockTo (seen .site) (mailClock seen);
+            passage =
+                withStatus
+                (seen .passage)
+                (cond
+                (atHome seen)
+                (askedStatus asked (seen .passage .status))
+                (seen .passage .status));
+            visit = askedVisit asked n (mailClock seen) (seen .visit);
+            message =
+                cond
+                (atHome seen)
+                noMessage
+                (answerMessage
+                (askedVisit asked n (mailClock seen) (seen .visit))
+                (seen .message .destination)
+                (seen .passage .home)
+                (seen .message .handle)
+                (mailClock seen));
+            objects = seen .objects;
+          };
+    }
+
+unfoldable pub deliverPhaseOneOf : ℕ → ℕ → Asked → Seen → Decision
+deliverPhaseOneOf m n asked seen = settleOf (phaseOneDone m n asked seen) seen
+
+-- 9: "phase 2: not equal"
+abbrev pub phaseTwoDone : ℕ → ℕ → Told → Seen → Decision
+phaseTwoDone m n told seen =
+    record {
+      answer = firstOf (roundChecks m (tellsLife told) (not (eqb n (seen .visit .round))) seen) 0;
+      left =
+          record {
+            site = clockTo (seen .site) (mailClock seen);
+            passage =
+                withStatus
+                (seen .passage)
+                (cond
+                (atHome seen)
+                (toldStatus told (seen .passage .status))
+                (seen .passage .status));
+            visit = toldVisit told (seen .visit);
+            message = noMessage;
+            objects = toldObjects told (mailSlot seen) (seen .objects);
+          };
+    }
+
+unfoldable pub deliverPhaseTwoOf : ℕ → ℕ → Told → Seen → Decision
+deliverPhaseTwoOf m n told seen = settleOf (phaseTwoDone m n told seen) seen
+
+-- 9: "answer: not the open round in phase 1". "each answer under its source over any there"
+abbrev pub answerChecks : ℕ → ℕ → Seen → List Check
+answerChecks m n seen =
+    refuse Refusal.BadField (badMessage m) ∷ siteDown seen ∷ clockFull (mailClock seen)
+    ∷ refuse
+    Refusal.WrongRound
+    (not (isPhaseOne (seen .passage .round .phase)) || not (eqb n (seen .passage .round .number)))
+    ∷ []
+
+abbrev pub answerDone : ℕ → ℕ → ℕ → ℕ → Seen → Decision
+answerDone m n received q seen =
+    record {
+      answer = firstOf (answerChecks m n seen) 0;
+      left =
+          record {
+            site = clockTo (seen .site) (mailClock seen);
+            passage =
+                withRound
+                (seen .passage)
+                (withAnswer
+                (seen .passage .round)
+                (seen .message .source)
+                (record { sent = seen .message .sent; received = received; quiesce = q }));
+            visit = seen .visit;
+            message = noMessage;
+            objects = seen .objects;
+          };
+    }
+
+unfoldable pub deliverAnswerOf : ℕ → ℕ → ℕ → ℕ → Seen → Decision
+deliverAnswerOf m n received q seen = settleOf (answerDone m n received q seen) seen
+
+-- by what the message slot holds
+unfoldable pub deliverBodyOf : Body → ℕ → Seen → Decision
+deliverBodyOf Body.Empty m seen = emptyOf m seen
+deliverBodyOf (Body.Call c) m seen = deliverCallOf m c seen
+deliverBodyOf (Body.PhaseOne n asked) m seen = deliverPhaseOneOf m n asked seen
+deliverBodyOf (Body.PhaseTwo n told) m seen = deliverPhaseTwoOf m n told seen
+deliverBodyOf (Body.Answer n received q) m seen = deliverAnswerOf m n received q seen
+
+abbrev pub deliverOf : ℕ → Seen → Decision
+deliverOf m seen = deliverBodyOf (seen .message .body) m seen
+
+-- ---- 12. drop c=message: it is lost. Acts at no site.
+
+abbrev pub dropDone : ℕ → Seen → Decision
+dropDone m seen =
+    record {
+      answer = firstOf (refuse Refusal.BadField (badMessage m) ∷ noMail seen ∷ []) 0;
+      left =
+          record {
+            site = seen .site;
+            passage = seen .passage;
+            visit = seen .visit;
+            message = noMessage;
+            objects = seen .objects;
+          };
+    }
+
+unfoldable pub dropOf : ℕ → Seen → Decision
+dropOf m seen = settleOf (dropDone m seen) seen

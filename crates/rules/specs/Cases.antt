@@ -1,0 +1,172 @@
+-- The starred cases of "Both sides of each edge", and the bench listing, computed from the definitions: one table, one claim.
+-- A row has the records from the start, what each answers, and what the tables then hold where the row says so.
+-- A sheet row has a whole sheet and the bytes of its listing. Assumes nothing.
+use Prim.Native.Nat.{ℕ}
+use mathlib.Core.Path.{_≡_, refl}
+use mathlib.Core.List.{List, [], _∷_, _++_, map}
+use Rattle.rules.specs.Types.{Tables, Step, Answer}
+use Rattle.rules.specs.Tables.{start, siteAt, objectAt}
+use Rattle.rules.specs.Loops.{everyUpTo, someUpTo, sumUpTo, mostUpTo, firstUpTo}
+use Rattle.rules.specs.Ranges.{countsInRange, roundInRange, inRange}
+use Rattle.rules.specs.Answers.{firstOf, answerNumber, answerValue}
+use Rattle.rules.specs.Parts.{sentTo, isClosed, largestQuiesce, answerCount}
+use Rattle.rules.specs.Stations.{tickOf, sweepOf, sweptSlot, crashOf, crashedSlot, recoverOf}
+use Rattle.rules.specs.Passages.{beginOf, abortOf, retireOf}
+use Rattle.rules.specs.Rounds.{openOf, refreshOf, terminateOf, prepareOf, askOf, closeOf, tellOf}
+use Rattle.rules.specs.Calls.{invokeOf, emptyOf, deliverCallOf, deliverPhaseOneOf, deliverPhaseTwoOf, deliverAnswerOf, deliverBodyOf, dropOf}
+use Rattle.rules.specs.Machine.{lowestEmpty, placesOf, remains, decideOf, stored, headOf, sweepTurn, crashTurn, turnsUpTo, stepInRangeOf, stepOf}
+use Rattle.rules.specs.Record.{stepOfFields, stepOfRecord, recordOfStep, recordInRangeOf, stepRecordOf}
+use Rattle.rules.specs.Runs.{recordAnswersOf, runRecordsOf}
+use Rattle.rules.specs.Sheet.{sheetAnswer, sheetRecords}
+use Rattle.rules.specs.Listing.{digitsOf, lineOf, printedUpTo, listingOf}
+
+-- what a row says of the tables: the clock of a site, the value of an object
+pub data Fact : Type 0 where
+  clock : ℕ → ℕ → Fact
+  width : ℕ → ℕ → Fact
+
+-- a run has the records, a number and a value for each, and facts; a sheet its bytes, and those of its listing
+pub data Row : Type 0 where
+  run : List (List ℕ) → List (List ℕ) → List Fact → Row
+  sheet : List ℕ → List ℕ → Row
+
+abbrev pub accepted : ℕ → List ℕ
+accepted value = 0 ∷ value ∷ []
+
+abbrev pub refused : ℕ → List ℕ
+refused number = number ∷ 0 ∷ []
+
+-- ---- what the definitions give for a row, and what the row wants, as lists of numbers
+
+abbrev pub joined : List (List ℕ) → List ℕ
+joined [] = []
+joined (x ∷ xs) = x ++ joined xs
+
+abbrev pub answerPair : Answer → List ℕ
+answerPair a = answerNumber a ∷ answerValue a ∷ []
+
+abbrev pub factFound : Tables → Fact → ℕ
+factFound t (clock s n) = siteAt t s .clock
+factFound t (width k n) = objectAt t k .value
+
+abbrev pub factWanted : Fact → ℕ
+factWanted (clock s n) = n
+factWanted (width k n) = n
+
+pub found : Row → List ℕ
+unfolding start everyUpTo someUpTo sumUpTo mostUpTo firstUpTo countsInRange roundInRange inRange firstOf sentTo isClosed largestQuiesce answerCount tickOf sweepOf sweptSlot crashOf crashedSlot recoverOf beginOf abortOf retireOf openOf refreshOf terminateOf prepareOf askOf closeOf tellOf invokeOf emptyOf deliverCallOf deliverPhaseOneOf deliverPhaseTwoOf deliverAnswerOf deliverBodyOf dropOf lowestEmpty placesOf remains decideOf stored headOf sweepTurn crashTurn turnsUpTo stepInRangeOf stepOf stepOfFields stepOfRecord recordOfStep recordInRangeOf stepRecordOf recordAnswersOf runRecordsOf sheetAnswer sheetRecords digitsOf lineOf printedUpTo listingOf
+found (run records says facts) =
+    joined (map answerPair (recordAnswersOf start records)) ++ map (factFound (runRecordsOf start records)) facts
+found (sheet bytes listing) = listingOf bytes
+
+pub wanted : Row → List ℕ
+wanted (run records says facts) = joined says ++ map factWanted facts
+wanted (sheet bytes listing) = listing
+
+-- ---- the table
+
+abbrev pub begins : ℕ → ℕ → List ℕ
+begins q r = recordOfStep (Step.Begin 0 0 q r)
+
+abbrev pub benchRecords : List (List ℕ)
+benchRecords =
+    recordOfStep (Step.Begin 0 0 100 150)
+    ∷ recordOfStep (Step.Invoke 0 0 0 4 0)
+    ∷ recordOfStep (Step.Deliver 0)
+    ∷ recordOfStep (Step.Begin 1 1 90 140)
+    ∷ recordOfStep (Step.Invoke 1 1 1 4 12500)
+    ∷ recordOfStep (Step.Deliver 0)
+    ∷ recordOfStep (Step.Abort 0)
+    ∷ recordOfStep (Step.Terminate 0)
+    ∷ recordOfStep (Step.Close 0)
+    ∷ recordOfStep (Step.Ask 0 1)
+    ∷ recordOfStep (Step.Deliver 1)
+    ∷ recordOfStep (Step.Deliver 1)
+    ∷ recordOfStep (Step.Close 0)
+    ∷ recordOfStep (Step.Tell 0 1)
+    ∷ recordOfStep (Step.Deliver 1)
+    ∷ recordOfStep (Step.Sweep 1)
+    ∷ recordOfStep (Step.Deliver 0)
+    ∷ []
+
+abbrev pub benchAnswers : List (List ℕ)
+benchAnswers =
+    accepted 0
+    ∷ accepted 0
+    ∷ accepted 0
+    ∷ accepted 1
+    ∷ accepted 0
+    ∷ refused 10
+    ∷ accepted 0
+    ∷ accepted 1
+    ∷ refused 12
+    ∷ accepted 1
+    ∷ accepted 0
+    ∷ accepted 0
+    ∷ accepted 2
+    ∷ accepted 1
+    ∷ accepted 0
+    ∷ accepted 1
+    ∷ accepted 0
+    ∷ []
+
+-- the bytes of the seventeen lines, one row each
+abbrev pub benchListing : List ℕ
+benchListing =
+    49 ∷ 32 ∷ 48 ∷ 32 ∷ 48 ∷ 10
+    ∷ 50 ∷ 32 ∷ 48 ∷ 32 ∷ 48 ∷ 10
+    ∷ 51 ∷ 32 ∷ 48 ∷ 32 ∷ 48 ∷ 10
+    ∷ 52 ∷ 32 ∷ 48 ∷ 32 ∷ 49 ∷ 10
+    ∷ 53 ∷ 32 ∷ 48 ∷ 32 ∷ 48 ∷ 10
+    ∷ 54 ∷ 32 ∷ 49 ∷ 48 ∷ 32 ∷ 48 ∷ 10
+    ∷ 55 ∷ 32 ∷ 48 ∷ 32 ∷ 48 ∷ 10
+    ∷ 56 ∷ 32 ∷ 48 ∷ 32 ∷ 49 ∷ 10
+    ∷ 57 ∷ 32 ∷ 49 ∷ 50 ∷ 32 ∷ 48 ∷ 10
+    ∷ 49 ∷ 48 ∷ 32 ∷ 48 ∷ 32 ∷ 49 ∷ 10
+    ∷ 49 ∷ 49 ∷ 32 ∷ 48 ∷ 32 ∷ 48 ∷ 10
+    ∷ 49 ∷ 50 ∷ 32 ∷ 48 ∷ 32 ∷ 48 ∷ 10
+    ∷ 49 ∷ 51 ∷ 32 ∷ 48 ∷ 32 ∷ 50 ∷ 10
+    ∷ 49 ∷ 52 ∷ 32 ∷ 48 ∷ 32 ∷ 49 ∷ 10
+    ∷ 49 ∷ 53 ∷ 32 ∷ 48 ∷ 32 ∷ 48 ∷ 10
+    ∷ 49 ∷ 54 ∷ 32 ∷ 48 ∷ 32 ∷ 49 ∷ 10
+    ∷ 49 ∷ 55 ∷ 32 ∷ 48 ∷ 32 ∷ 48 ∷ 10
+    ∷ []
+
+-- "no heading, trailer 10 01 00 00 50 41 53 53"
+abbrev pub benchSheet : List ℕ
+benchSheet = joined benchRecords ++ (0x10 ∷ 0x01 ∷ 0x00 ∷ 0x00 ∷ 0x50 ∷ 0x41 ∷ 0x53 ∷ 0x53 ∷ [])
+
+abbrev pub cases : List Row
+cases =
+    -- begin Q=1 at clock 0: 8
+    run (begins 1 50 ∷ []) (refused 8 ∷ []) []
+    -- Q=2: accepted
+    ∷ run (begins 2 50 ∷ []) (accepted 0 ∷ []) (clock 0 1 ∷ [])
+    -- Q=R=2: accepted
+    ∷ run (begins 2 2 ∷ []) (accepted 0 ∷ []) (clock 0 1 ∷ [])
+    -- Q=3, R=2: 2
+    ∷ run (begins 3 2 ∷ []) (refused 2 ∷ []) []
+    -- R=1,000,000,001: 2
+    ∷ run (begins 1 1000000001 ∷ []) (refused 2 ∷ []) []
+    -- tick 0: 2
+    ∷ run (recordOfStep (Step.Tick 0 0) ∷ []) (refused 2 ∷ []) (clock 0 0 ∷ [])
+    -- tick 1,000,000: value 1,000,000
+    ∷ run (recordOfStep (Step.Tick 0 1000000) ∷ []) (accepted 1000000 ∷ []) (clock 0 1000000 ∷ [])
+    -- recover 0: 5
+    ∷ run (recordOfStep (Step.Recover 0) ∷ []) (refused 5 ∷ []) (clock 0 0 ∷ [])
+    -- deliver 0: 3
+    ∷ run (recordOfStep (Step.Deliver 0) ∷ []) (refused 3 ∷ []) []
+    -- sweep 0: value 0, clock 1
+    ∷ run (recordOfStep (Step.Sweep 0) ∷ []) (accepted 0 ∷ []) (clock 0 1 ∷ [])
+    -- code 17: 1
+    ∷ run ((17 ∷ []) ∷ []) (refused 1 ∷ []) []
+    -- the bench listing: "Then clocks 0 and 1 are 9 and 12 and object 4 is 12,500"
+    ∷ run benchRecords benchAnswers (clock 0 9 ∷ clock 1 12 ∷ width 4 12500 ∷ [])
+    -- the same as a sheet
+    ∷ sheet benchSheet benchListing
+    ∷ []
+
+-- every case is as document 01 says
+pub cases-hold : map found cases ≡ map wanted cases
+unfolding found wanted
+cases-hold = refl

@@ -1,0 +1,26 @@
+-- The ranges of document 01, "Tables and numbers". Assumes nothing.
+use Prim.Native.Nat.{ℕ}
+
+-- "clock 0..2,000,000,000"
+abbrev pub clockMost : ℕ
+clockMost = 2000000000
+
+-- "Q and R are 0..1,000,000,000"
+abbrev pub timeMost : ℕ
+timeMost = 1000000000
+
+-- "Value 0..1,000,000 (mm)"
+abbrev pub widthMost : ℕ
+widthMost = 1000000
+
+-- "number 0..1,000", "calls sent .. (0..1,000 each), calls received (0..1,000)"
+abbrev pub countMost : ℕ
+countMost = 1000
+
+-- "a field or handle (0..4,095)"
+abbrev pub handleMost : ℕ
+handleMost = 4095
+
+-- "n, 1..1,000,000"
+abbrev pub tickMost : ℕ
+tickMost = 1000000
