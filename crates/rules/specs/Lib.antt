@@ -3,9 +3,11 @@
 pub mod Types
 pub mod Limits
 pub mod Loops
+pub mod LoopsLaws
 pub mod Tables
 pub mod Ranges
 pub mod Answers
+pub mod AnswersLaws
 pub mod Parts
 pub mod Checks
 pub mod Stations
@@ -13,7 +15,10 @@ pub mod Passages
 pub mod Rounds
 pub mod Calls
 pub mod Machine
+pub mod StoredLaws
+pub mod Sane
 pub mod Record
+pub mod RefusedLaws
 pub mod Runs
 pub mod Sheet
 pub mod Listing
