@@ -9,7 +9,7 @@ use Rattle.rules.specs.Types.{Object, Figures, Visit, Call, Asked, Told,
 use Rattle.rules.specs.Limits.{widthMost, countMost}
 use Rattle.rules.specs.Tables.{objectSite, slotOf, pastObject, noMessage}
 use Rattle.rules.specs.Answers.{refuse, firstOf, settleOf}
-use Rattle.rules.specs.Parts.{clockTo, nextClock, deliveryClock, isPhaseOne, withStatus, withRound, whereThere, newVisit, countSent, countReceived, isHeldByOther, taken, operated, withAnswer, askedVisit, askedStatus, toldVisit, toldObjects, toldStatus, asksLife, tellsLife, plainMessage, answerMessage}
+use Rattle.rules.specs.Parts.{clockTo, nextClock, deliveryClock, isFree, isPhaseOne, withStatus, withRound, whereThere, newVisit, countSent, countReceived, isHeldByOther, taken, operated, withAnswer, askedVisit, askedStatus, toldVisit, toldObjects, toldStatus, asksLife, tellsLife, plainMessage, answerMessage}
 use Rattle.rules.specs.Checks.{badSite, badHandle, badMessage, noPassage, noMail, siteDown, visitMissing, clockFull, isFull}
 
 -- ---- 3. invoke h, a=site, b=0 read or 1 write, c=object, u=value (0 for read). Value: message slot.
@@ -207,13 +207,14 @@ phaseTwoDone m n told seen =
 unfoldable pub deliverPhaseTwoOf : ℕ → ℕ → Told → Seen → Decision
 deliverPhaseTwoOf m n told seen = settleOf (phaseTwoDone m n told seen) seen
 
--- 9: "answer: not the open round in phase 1". "each answer under its source over any there"
+-- 9: "answer: not the open round in phase 1"; a free slot has none. "each answer under its source over any there"
 abbrev pub answerChecks : ℕ → ℕ → Seen → List Check
 answerChecks m n seen =
     refuse Refusal.BadField (badMessage m) ∷ siteDown seen ∷ clockFull (mailClock seen)
     ∷ refuse
     Refusal.WrongRound
-    (not (isPhaseOne (seen .passage .round .phase)) || not (eqb n (seen .passage .round .number)))
+    (isFree (seen .passage .status) || not (isPhaseOne (seen .passage .round .phase))
+    || not (eqb n (seen .passage .round .number)))
     ∷ []
 
 abbrev pub answerDone : ℕ → ℕ → ℕ → ℕ → Seen → Decision

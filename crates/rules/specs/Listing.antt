@@ -50,10 +50,10 @@ sheetLine number = 115 ∷ 104 ∷ 101 ∷ 101 ∷ 116 ∷ 32 ∷ (decimalOf num
 
 abbrev pub listingBy : SheetAnswer → List ℕ → List ℕ
 listingBy SheetAnswer.Taken part = printedUpTo part (length part / 16) .text
-listingBy SheetAnswer.TooLong part = sheetLine 1
-listingBy SheetAnswer.TooShort part = sheetLine 2
-listingBy SheetAnswer.BadMark part = sheetLine 3
-listingBy SheetAnswer.BadDistance part = sheetLine 4
+listingBy SheetAnswer.TooLong part = sheetLine (sheetNumber SheetAnswer.TooLong)
+listingBy SheetAnswer.TooShort part = sheetLine (sheetNumber SheetAnswer.TooShort)
+listingBy SheetAnswer.BadMark part = sheetLine (sheetNumber SheetAnswer.BadMark)
+listingBy SheetAnswer.BadDistance part = sheetLine (sheetNumber SheetAnswer.BadDistance)
 
 unfoldable pub listingOf : List ℕ → List ℕ
 listingOf sheet = listingBy (sheetAnswer sheet) (sheetRecords sheet)

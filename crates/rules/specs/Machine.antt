@@ -210,8 +210,10 @@ stepInRangeOf t step =
     let head : Outcome = headOf t step in
     turnsUpTo (lookOf step .trip) head (turnCount (lookOf step .trip) (head .answer))
 
--- "20 tried first"
-unfoldable pub stepOf : Tables → Step → Outcome
-stepOf t step =
-    let done : Outcome = stepInRangeOf t step in
+-- "20 tried first", and "all tables stay"
+abbrev pub unlessOutOfRange : Tables → Outcome → Outcome
+unlessOutOfRange t done =
     cond (inRange t) done (record { answer = Answer.Refused Refusal.OutOfRange; tables = t })
+
+unfoldable pub stepOf : Tables → Step → Outcome
+stepOf t step = unlessOutOfRange t (stepInRangeOf t step)

@@ -215,21 +215,17 @@ abbrev pub operated : Call → Object → Object
 operated c o =
     cond (c .write) (record { value = c .value; holder = o .holder; before = o .before }) o
 
--- "its objects are freed and keep their values"; "the value before .., 0 once freed"
+-- "the value before the holder took it, 0 once freed"
+abbrev pub unheld : ℕ → Object
+unheld value = record { value = value; holder = Holder.Nobody; before = 0 }
+
+-- "its objects are freed and keep their values"
 abbrev pub freed : ℕ → Object → Object
-freed p o =
-    cond
-    (isHeldBy p (o .holder))
-    (record { value = o .value; holder = Holder.Nobody; before = 0 })
-    o
+freed p o = cond (isHeldBy p (o .holder)) (unheld (o .value)) o
 
 -- "restores and frees its objects"
 abbrev pub restored : ℕ → Object → Object
-restored p o =
-    cond
-    (isHeldBy p (o .holder))
-    (record { value = o .before; holder = Holder.Nobody; before = 0 })
-    o
+restored p o = cond (isHeldBy p (o .holder)) (unheld (o .before)) o
 
 -- a change of each of a site's four objects
 abbrev pub eachOf : (Object → Object) → List Object → List Object

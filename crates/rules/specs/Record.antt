@@ -6,8 +6,7 @@ use mathlib.Core.List.{List, [], _∷_, _++_}
 use lib.Dec.{leb, ltb, eqb}
 use lib.ListN.{getD}
 use Rattle.rules.specs.Types.{Step, Fields, Reading, Tables, Refusal, Answer, Outcome}
-use Rattle.rules.specs.Ranges.{inRange}
-use Rattle.rules.specs.Machine.{stepInRangeOf}
+use Rattle.rules.specs.Machine.{stepInRangeOf, unlessOutOfRange}
 
 -- ---- numbers in bytes, little-endian
 
@@ -158,6 +157,4 @@ unfoldable pub recordInRangeOf : Tables → List ℕ → Outcome
 recordInRangeOf t b = readingOf t (stepOfRecord b)
 
 unfoldable pub stepRecordOf : Tables → List ℕ → Outcome
-stepRecordOf t b =
-    let done : Outcome = recordInRangeOf t b in
-    cond (inRange t) done (record { answer = Answer.Refused Refusal.OutOfRange; tables = t })
+stepRecordOf t b = unlessOutOfRange t (recordInRangeOf t b)

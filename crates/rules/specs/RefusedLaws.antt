@@ -117,3 +117,8 @@ refused-record-leaves t b e =
     (λ q. rw q (reading-refused t (stepOfRecord b) (rw q at e)))
     (λ q. rw q)
     (either (inRange t))
+
+-- a record that stands for a step does what the step does
+pub record-is-step : (t : Tables) (b : List ℕ) (step : Step) → stepOfRecord b ≡ Reading.Known step → stepRecordOf t b ≡ stepOf t step
+unfolding stepRecordOf recordInRangeOf stepOf
+record-is-step t b step e = rw e

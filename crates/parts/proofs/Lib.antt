@@ -1,0 +1,2 @@
+-- Laws that parts' proofs cite. Assumes nothing.
+pub mod Eight

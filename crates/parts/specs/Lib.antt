@@ -1,0 +1,2 @@
+-- What parts' loops say of a round. Assumes nothing.
+pub mod Balances
