@@ -19,6 +19,9 @@ pub mod StoredLaws
 pub mod Sane
 pub mod Record
 pub mod RefusedLaws
+pub mod RangesLaws
+pub mod RangesFits
+pub mod RangesKept
 pub mod Runs
 pub mod Sheet
 pub mod Listing

@@ -1,0 +1,2 @@
+-- One check before an answer. Assumes nothing.
+pub mod Order
