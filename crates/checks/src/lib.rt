@@ -1,8 +1,14 @@
 // How a step is refused: its checks as data, in the order of the refusal table; the first that holds refuses.
-use parts::passages::{is_empty, is_free};
-use rules::answers::{Answer, Check, Decision, Refusal, Seen};
+use parts::passages::is_empty;
+use parts::passages::is_free;
+use rules::answers::Answer;
+use rules::answers::Check;
+use rules::answers::Decision;
+use rules::answers::Refusal;
+use rules::answers::Seen;
 ghost use Prim.Native.Nat.{ℕ};
 ghost use mathlib.Core.Path.{_≡_};
+ghost use mathlib.Core.Bool.{false};
 ghost use Rattle.rules.specs.Answers.{refuse, firstOf, isAccepted, settleOf, refusalNumber};
 ghost use Rattle.checks.specs.Order.{answerOr};
 ghost use Rattle.rules.specs.Checks.{badSite, badHandle, badTimes, badMessage, noPassage, noMail, siteDown, visitMissing, clockFull, isFull};

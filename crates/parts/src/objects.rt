@@ -55,7 +55,7 @@ pub fn operated(call: Call, o: Object) -> Object
     }
 }
 
-fn unheld(value: u32) -> Object
+pub fn unheld(value: u32) -> Object
     ensures { λ r. ⌜ r ≡ unheld value ⌝ }
 {
     Object {

@@ -7,6 +7,7 @@ use rules::tables::Round;
 ghost use Prim.Native.Nat.{ℕ, _+_, _*_, _≤_, _<_};
 ghost use mathlib.Core.Path.{_≡_};
 ghost use lib.ListN.{length, getD};
+ghost use Rattle.rules.specs.Tables.{noFigures, noRound};
 ghost use Rattle.rules.specs.Parts.{hasAnswered, withAnswer, openedRound, ifAnswered, receivedAt, isClosed, largestQuiesce, answerCount};
 ghost use Rattle.parts.specs.Balances.{balanceOf, balancesNext, balancesUpTo, metUpTo, quiesceOf};
 
@@ -29,16 +30,36 @@ pub fn with_answer(round: Round, site: usize, f: Figures) -> Round
     next
 }
 
+fn no_figures() -> Figures
+    ensures { λ r. ⌜ r ≡ noFigures ⌝ }
+{
+    Figures {
+        sent: [0u16; 8],
+        received: 0,
+        quiesce: 0,
+    }
+}
+
+// The round of a passage that has had none.
+pub fn no_round() -> Round
+    ensures { λ r. ⌜ r ≡ noRound ⌝ }
+{
+    let none = no_figures();
+    Round {
+        number: 0,
+        kind: Kind::None,
+        phase: Phase::None,
+        answered: 0,
+        figures: [none; 8],
+    }
+}
+
 // A round opens: number one higher, phase 1, nothing kept.
 pub fn opened_round(round: Round, kind: Kind) -> Round
     requires { ⌜ round .number ≤ 1000 ⌝ }
     ensures { λ r. ⌜ r ≡ openedRound round kind ⌝ }
 {
-    let none = Figures {
-        sent: [0u16; 8],
-        received: 0,
-        quiesce: 0,
-    };
+    let none = no_figures();
     Round {
         number: round.number + 1,
         kind: kind,

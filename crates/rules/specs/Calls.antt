@@ -5,7 +5,7 @@ use mathlib.Core.Bool.{Bool, true, false, cond, not, _&&_, _||_}
 use mathlib.Core.List.{List, [], _∷_}
 use lib.Dec.{leb, ltb, eqb}
 use lib.ListN.{getD, set}
-use Rattle.rules.specs.Types.{Object, Figures, Visit, Call, Asked, Told, Body, Message, Refusal, Check, Seen, Decision}
+use Rattle.rules.specs.Types.{Object, Figures, Status, Passage, Visit, Call, Asked, Told, Body, Message, Refusal, Answer, Check, Seen, Decision}
 use Rattle.rules.specs.Limits.{widthMost, countMost}
 use Rattle.rules.specs.Tables.{objectSite, slotOf, pastObject, noMessage}
 use Rattle.rules.specs.Answers.{refuse, firstOf, settleOf}
@@ -24,6 +24,10 @@ badCall h site write object value =
     badHandle h || badSite site || ltb 1 write || ltb 31 object || ltb widthMost value
     || (eqb write 0 && not (eqb value 0))
 
+-- 11: "call count (sent for invoke ..) at 1,000"
+abbrev pub isSentOut : ℕ → Visit → Bool
+isSentOut object v = leb countMost (getD (v .sent) (callSite object) 0)
+
 -- 8: "invoke ..: clock ≥ Q ..; invoke ..: visit dead". 11: "no empty message slot ..; call count (sent for invoke ..) .. at 1,000"
 abbrev pub invokeChecks : ℕ → ℕ → ℕ → ℕ → ℕ → Seen → List Check
 invokeChecks h site write object value seen =
@@ -35,7 +39,7 @@ invokeChecks h site write object value seen =
     (leb (seen .visit .quiesce) (nextClock (seen .site)) || seen .visit .dead)
     ∷ refuse
     Refusal.Full
-    (isFull seen || leb countMost (getD (seen .visit .sent) (callSite object) 0))
+    (isFull seen || isSentOut object (seen .visit))
     ∷ []
 
 -- "a call goes out with the visit's Q, R and round"
@@ -50,24 +54,23 @@ callOf write object value v =
       value = value;
     }
 
+-- what an invoke leaves at this clock, for this call
+abbrev pub invoked : ℕ → ℕ → Call → ℕ → Seen → Seen
+invoked h site call clock seen =
+    record {
+      site = clockTo (seen .site) clock;
+      passage = seen .passage;
+      visit = countSent (seen .visit) (callSite (call .object));
+      message = plainMessage (Body.Call call) site (callSite (call .object)) h clock;
+      objects = seen .objects;
+    }
+
 abbrev pub invokeDone : ℕ → ℕ → ℕ → ℕ → ℕ → ℕ → Seen → Decision
 invokeDone h site write object value place seen =
     record {
       answer = firstOf (invokeChecks h site write object value seen) place;
       left =
-          record {
-            site = clockTo (seen .site) (nextClock (seen .site));
-            passage = seen .passage;
-            visit = countSent (seen .visit) (callSite object);
-            message =
-                plainMessage
-                (Body.Call (callOf write object value (seen .visit)))
-                site
-                (callSite object)
-                h
-                (nextClock (seen .site));
-            objects = seen .objects;
-          };
+          invoked h site (callOf write object value (seen .visit)) (nextClock (seen .site)) seen;
     }
 
 unfoldable pub invokeOf : ℕ → ℕ → ℕ → ℕ → ℕ → ℕ → Seen → Decision
@@ -118,90 +121,99 @@ callChecks m c seen =
     ∷ refuse Refusal.Full (leb countMost (calledVisit c (seen .visit) .received))
     ∷ []
 
--- "Received grows by 1. The object is taken if unheld, then read or written. Value: the object's value before the operation."
+-- "Received grows by 1. The object is taken if unheld, then read or written."
+abbrev pub called : Call → ℕ → Seen → Seen
+called c clock seen =
+    record {
+      site = clockTo (seen .site) clock;
+      passage = seen .passage;
+      visit = countReceived (calledVisit c (seen .visit));
+      message = noMessage;
+      objects =
+          set
+          (seen .objects)
+          (c .object % 4)
+          (operated c (taken (mailSlot seen) (calledObject c seen)));
+    }
+
+-- "Value: the object's value before the operation."
 abbrev pub callDone : ℕ → Call → Seen → Decision
 callDone m c seen =
     record {
       answer = firstOf (callChecks m c seen) (calledObject c seen .value);
-      left =
-          record {
-            site = clockTo (seen .site) (mailClock seen);
-            passage = seen .passage;
-            visit = countReceived (calledVisit c (seen .visit));
-            message = noMessage;
-            objects =
-                set
-                (seen .objects)
-                (c .object % 4)
-                (operated c (taken (mailSlot seen) (calledObject c seen)));
-          };
+      left = called c (mailClock seen) seen;
     }
 
 unfoldable pub deliverCallOf : ℕ → Call → Seen → Decision
 deliverCallOf m c seen = settleOf (callDone m c seen) seen
 
 -- what a delivered phase 1 or phase 2 message tries. 8: "delivered refresh or prepare message of either phase: visit dead"
-abbrev pub roundChecks : ℕ → Bool → Bool → Seen → List Check
-roundChecks m life wrong seen =
+abbrev pub roundChecks : ℕ → Bool → Bool → ℕ → Seen → List Check
+roundChecks m life wrong clock seen =
     refuse Refusal.BadField (badMessage m) ∷ siteDown seen ∷ visitMissing seen
-    ∷ clockFull (mailClock seen)
+    ∷ clockFull clock
     ∷ refuse Refusal.Quiesced (life && seen .visit .dead)
     ∷ refuse Refusal.WrongRound wrong
     ∷ []
 
--- 9: "delivered phase 1: number ≤ the visit's".
+-- the answer that these checks give at this clock
+abbrev pub roundAnswer : ℕ → Bool → Bool → ℕ → Seen → Answer
+roundAnswer m life wrong clock seen = firstOf (roundChecks m life wrong clock seen) 0
+
+-- the passage after a phase 1 or phase 2 message: at home it takes the status that the message's part gives
+abbrev pub statusAtHome : Status → Seen → Passage
+statusAtHome s seen = cond (atHome seen) (withStatus (seen .passage) s) (seen .passage)
+
 -- "Away from home the message's slot then holds the answer, sent back to home"
+abbrev pub replyOf : Visit → ℕ → Seen → Message
+replyOf v clock seen =
+    cond
+    (atHome seen)
+    noMessage
+    (answerMessage
+    v
+    (seen .message .destination)
+    (seen .passage .home)
+    (seen .message .handle)
+    clock)
+
+abbrev pub askedAt : ℕ → Asked → ℕ → Seen → Seen
+askedAt n asked clock seen =
+    record {
+      site = clockTo (seen .site) clock;
+      passage = statusAtHome (askedStatus asked (seen .passage .status)) seen;
+      visit = askedVisit asked n clock (seen .visit);
+      message = replyOf (askedVisit asked n clock (seen .visit)) clock seen;
+      objects = seen .objects;
+    }
+
+-- 9: "delivered phase 1: number ≤ the visit's"
 abbrev pub phaseOneDone : ℕ → ℕ → Asked → Seen → Decision
 phaseOneDone m n asked seen =
     record {
-      answer = firstOf (roundChecks m (asksLife asked) (leb n (seen .visit .round)) seen) 0;
-      left =
-          record {
-            site = clockTo (seen .site) (mailClock seen);
-            passage =
-                withStatus
-                (seen .passage)
-                (cond
-                (atHome seen)
-                (askedStatus asked (seen .passage .status))
-                (seen .passage .status));
-            visit = askedVisit asked n (mailClock seen) (seen .visit);
-            message =
-                cond
-                (atHome seen)
-                noMessage
-                (answerMessage
-                (askedVisit asked n (mailClock seen) (seen .visit))
-                (seen .message .destination)
-                (seen .passage .home)
-                (seen .message .handle)
-                (mailClock seen));
-            objects = seen .objects;
-          };
+      answer = roundAnswer m (asksLife asked) (leb n (seen .visit .round)) (mailClock seen) seen;
+      left = askedAt n asked (mailClock seen) seen;
     }
 
 unfoldable pub deliverPhaseOneOf : ℕ → ℕ → Asked → Seen → Decision
 deliverPhaseOneOf m n asked seen = settleOf (phaseOneDone m n asked seen) seen
 
+abbrev pub toldAt : Told → ℕ → Seen → Seen
+toldAt told clock seen =
+    record {
+      site = clockTo (seen .site) clock;
+      passage = statusAtHome (toldStatus told (seen .passage .status)) seen;
+      visit = toldVisit told (seen .visit);
+      message = noMessage;
+      objects = toldObjects told (mailSlot seen) (seen .objects);
+    }
+
 -- 9: "phase 2: not equal"
 abbrev pub phaseTwoDone : ℕ → ℕ → Told → Seen → Decision
 phaseTwoDone m n told seen =
     record {
-      answer = firstOf (roundChecks m (tellsLife told) (not (eqb n (seen .visit .round))) seen) 0;
-      left =
-          record {
-            site = clockTo (seen .site) (mailClock seen);
-            passage =
-                withStatus
-                (seen .passage)
-                (cond
-                (atHome seen)
-                (toldStatus told (seen .passage .status))
-                (seen .passage .status));
-            visit = toldVisit told (seen .visit);
-            message = noMessage;
-            objects = toldObjects told (mailSlot seen) (seen .objects);
-          };
+      answer = roundAnswer m (tellsLife told) (not (eqb n (seen .visit .round))) (mailClock seen) seen;
+      left = toldAt told (mailClock seen) seen;
     }
 
 unfoldable pub deliverPhaseTwoOf : ℕ → ℕ → Told → Seen → Decision
@@ -217,24 +229,26 @@ answerChecks m n seen =
     || not (eqb n (seen .passage .round .number)))
     ∷ []
 
+abbrev pub answeredAt : Figures → ℕ → Seen → Seen
+answeredAt f clock seen =
+    record {
+      site = clockTo (seen .site) clock;
+      passage =
+          withRound (seen .passage) (withAnswer (seen .passage .round) (seen .message .source) f);
+      visit = seen .visit;
+      message = noMessage;
+      objects = seen .objects;
+    }
+
 abbrev pub answerDone : ℕ → ℕ → ℕ → ℕ → Seen → Decision
 answerDone m n received q seen =
     record {
       answer = firstOf (answerChecks m n seen) 0;
       left =
-          record {
-            site = clockTo (seen .site) (mailClock seen);
-            passage =
-                withRound
-                (seen .passage)
-                (withAnswer
-                (seen .passage .round)
-                (seen .message .source)
-                (record { sent = seen .message .sent; received = received; quiesce = q }));
-            visit = seen .visit;
-            message = noMessage;
-            objects = seen .objects;
-          };
+          answeredAt
+          (record { sent = seen .message .sent; received = received; quiesce = q })
+          (mailClock seen)
+          seen;
     }
 
 unfoldable pub deliverAnswerOf : ℕ → ℕ → ℕ → ℕ → Seen → Decision
@@ -253,18 +267,21 @@ deliverOf m seen = deliverBodyOf (seen .message .body) m seen
 
 -- ---- 12. drop c=message: it is lost. Acts at no site.
 
+abbrev pub lost : Seen → Seen
+lost seen =
+    record {
+      site = seen .site;
+      passage = seen .passage;
+      visit = seen .visit;
+      message = noMessage;
+      objects = seen .objects;
+    }
+
 abbrev pub dropDone : ℕ → Seen → Decision
 dropDone m seen =
     record {
       answer = firstOf (refuse Refusal.BadField (badMessage m) ∷ noMail seen ∷ []) 0;
-      left =
-          record {
-            site = seen .site;
-            passage = seen .passage;
-            visit = seen .visit;
-            message = noMessage;
-            objects = seen .objects;
-          };
+      left = lost seen;
     }
 
 unfoldable pub dropOf : ℕ → Seen → Decision

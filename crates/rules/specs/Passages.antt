@@ -24,19 +24,23 @@ abbrev pub begunPassage : ℕ → Passage → Passage
 begunPassage home p =
     record { status = Status.Active; home = home; round = noRound; generation = p .generation }
 
+-- what a begin leaves at this clock
+abbrev pub begun : ℕ → ℕ → ℕ → ℕ → Seen → Seen
+begun home q r clock seen =
+    record {
+      site = clockTo (seen .site) clock;
+      passage = begunPassage home (seen .passage);
+      visit = newVisit q r 0;
+      message = seen .message;
+      objects = seen .objects;
+    }
+
 abbrev pub beginDone : ℕ → ℕ → ℕ → ℕ → Seen → Decision
 beginDone home slot q r seen =
     record {
       answer =
           firstOf (beginChecks home slot q r seen) (handleOf slot (seen .passage .generation));
-      left =
-          record {
-            site = clockTo (seen .site) (nextClock (seen .site));
-            passage = begunPassage home (seen .passage);
-            visit = newVisit q r 0;
-            message = seen .message;
-            objects = seen .objects;
-          };
+      left = begun home q r (nextClock (seen .site)) seen;
     }
 
 unfoldable pub beginOf : ℕ → ℕ → ℕ → ℕ → Seen → Decision
@@ -51,21 +55,22 @@ abortChecks h seen =
     ∷ clockFull (nextClock (seen .site))
     ∷ []
 
+-- what an abort leaves at this clock
+abbrev pub aborted : ℕ → Seen → Seen
+aborted clock seen =
+    record {
+      site = clockTo (seen .site) clock;
+      passage = abortedPassage (seen .passage);
+      visit = whereThere (seen .visit) (quieted (seen .visit) clock false (seen .visit .dead));
+      message = seen .message;
+      objects = seen .objects;
+    }
+
 abbrev pub abortDone : ℕ → Seen → Decision
 abortDone h seen =
     record {
       answer = firstOf (abortChecks h seen) 0;
-      left =
-          record {
-            site = clockTo (seen .site) (nextClock (seen .site));
-            passage = abortedPassage (seen .passage);
-            visit =
-                whereThere
-                (seen .visit)
-                (quieted (seen .visit) (nextClock (seen .site)) false (seen .visit .dead));
-            message = seen .message;
-            objects = seen .objects;
-          };
+      left = aborted (nextClock (seen .site)) seen;
     }
 
 unfoldable pub abortOf : ℕ → Seen → Decision
@@ -84,19 +89,19 @@ retireChecks h remains seen =
 abbrev pub nextGeneration : ℕ → ℕ
 nextGeneration g = (g + 1) % 256
 
+abbrev pub retired : Seen → Seen
+retired seen =
+    record {
+      site = seen .site;
+      passage = freeSlot (nextGeneration (seen .passage .generation));
+      visit = seen .visit;
+      message = seen .message;
+      objects = seen .objects;
+    }
+
 abbrev pub retireDone : ℕ → Bool → Seen → Decision
 retireDone h remains seen =
-    record {
-      answer = firstOf (retireChecks h remains seen) 0;
-      left =
-          record {
-            site = seen .site;
-            passage = freeSlot (nextGeneration (seen .passage .generation));
-            visit = seen .visit;
-            message = seen .message;
-            objects = seen .objects;
-          };
-    }
+    record { answer = firstOf (retireChecks h remains seen) 0; left = retired seen }
 
 unfoldable pub retireOf : ℕ → Bool → Seen → Decision
 retireOf h remains seen = settleOf (retireDone h remains seen) seen

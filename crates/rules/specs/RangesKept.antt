@@ -78,7 +78,7 @@ module _ (seen : Seen) (b : SeenFits seen) where
       settled-fits _ _ _ λ f.
       let n : seen .passage .round .number < countMost = leb-false _ _ (f .1 .1 .1 .1 .1 .1 .0) in
       let g : kindInRange k ≡ true = kind (f .0) in
-      let v : VisitFits (openedVisit k seen) =
+      let v : VisitFits (openedVisit k (nextClock (seen .site)) seen) =
       asked-visit-fits (askedOf k) _ _ (seen .visit) (asked-in-range k g) (omega arith) (b .visit) in
       let r : RoundFits (openedRound (seen .passage .round) k) = search (arith, eight-figures-fit) in
       search (arith, ltb-false, with-answer-fits)
@@ -95,7 +95,7 @@ module _ (seen : Seen) (b : SeenFits seen) where
       (body : Body) (h site : ℕ) → (badHandle h || badSite site) ≡ false
       → ltb clockMost (nextClock (seen .site)) ≡ false
       → bodyInRange body ≡ true
-      → SeenFits (sentOut body h site seen)
+      → SeenFits (sentOut body h site (nextClock (seen .site)) seen)
   sent-out-fits body h site e c r =
       neither {a = badHandle h} {b = badSite site} e λ f g. search (arith, ltb-false, no-counts-fit)
 
@@ -163,13 +163,13 @@ module _ (seen : Seen) (b : SeenFits seen) where
   fits-after-phase-one m n asked h e =
       let v : VisitFits (askedVisit asked n (mailClock seen) (seen .visit)) =
       asked-visit-fits asked n (mailClock seen) (seen .visit) e h (b .visit) in
-      settled-fits _ _ _ (λ f. search (arith, ltb-false, no-message-fits, answer-message-fits, cond-keeps MessageFits))
+      settled-fits _ _ _ (λ f. search (cond-keeps PassageFits, arith, ltb-false, no-message-fits, answer-message-fits, cond-keeps MessageFits))
 
   fits-after-phase-two :
       (m n : ℕ) (told : Told) → toldInRange told ≡ true → SeenFits (deliverPhaseTwoOf m n told seen .left)
   unfolding deliverPhaseTwoOf
   fits-after-phase-two m n told e =
-      settled-fits _ _ _ (λ f. search (arith, ltb-false, told-visit-fits, no-message-fits, told-objects-fit))
+      settled-fits _ _ _ (λ f. search (cond-keeps PassageFits, arith, ltb-false, told-visit-fits, no-message-fits, told-objects-fit))
 
   fits-after-answer :
       (m n received q : ℕ) → received ≤ countMost → q ≤ timeMost → SeenFits (deliverAnswerOf m n received q seen .left)

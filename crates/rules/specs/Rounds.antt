@@ -4,7 +4,7 @@ use Prim.Native.Nat.{ℕ, _+_, _%_}
 use mathlib.Core.Bool.{Bool, true, false, cond, not, _&&_, _||_}
 use mathlib.Core.List.{List, [], _∷_}
 use lib.Dec.{leb, ltb, eqb}
-use Rattle.rules.specs.Types.{Kind, Phase, Round, Passage, Visit, Told, Body, Refusal, Check, Seen, Decision}
+use Rattle.rules.specs.Types.{Object, Kind, Phase, Round, Passage, Visit, Told, Body, Refusal, Check, Seen, Decision}
 use Rattle.rules.specs.Limits.{countMost}
 use Rattle.rules.specs.Tables.{slotOf}
 use Rattle.rules.specs.Answers.{refuse, firstOf, settleOf}
@@ -24,9 +24,8 @@ openChecks h bad wrong seen =
     ∷ []
 
 -- the home visit after home's own phase 1 part
-abbrev pub openedVisit : Kind → Seen → Visit
-openedVisit k seen =
-    askedVisit (askedOf k) (seen .passage .round .number + 1) (nextClock (seen .site)) (seen .visit)
+abbrev pub openedVisit : Kind → ℕ → Seen → Visit
+openedVisit k clock seen = askedVisit (askedOf k) (seen .passage .round .number + 1) clock (seen .visit)
 
 -- the passage with its round open, home's figures kept as its phase 1 part left them, and home answering
 abbrev pub openedPassage : Kind → Passage → Visit → Passage
@@ -38,18 +37,22 @@ openedPassage k p v =
       generation = p .generation;
     }
 
+-- what opening a round leaves at this clock
+abbrev pub opened : Kind → ℕ → Seen → Seen
+opened k clock seen =
+    record {
+      site = clockTo (seen .site) clock;
+      passage = openedPassage k (seen .passage) (openedVisit k clock seen);
+      visit = openedVisit k clock seen;
+      message = seen .message;
+      objects = seen .objects;
+    }
+
 abbrev pub openDone : ℕ → Kind → Bool → Bool → Seen → Decision
 openDone h k bad wrong seen =
     record {
       answer = firstOf (openChecks h bad wrong seen) (seen .passage .round .number + 1);
-      left =
-          record {
-            site = clockTo (seen .site) (nextClock (seen .site));
-            passage = openedPassage k (seen .passage) (openedVisit k seen);
-            visit = openedVisit k seen;
-            message = seen .message;
-            objects = seen .objects;
-          };
+      left = opened k (nextClock (seen .site)) seen;
     }
 
 unfoldable pub openOf : ℕ → Kind → Bool → Bool → Seen → Decision
@@ -88,13 +91,13 @@ askChecks h site seen =
     ∷ []
 
 -- what ask and tell share: a message from home goes into the empty slot, and the clock moves
-abbrev pub sentOut : Body → ℕ → ℕ → Seen → Seen
-sentOut body h site seen =
+abbrev pub sentOut : Body → ℕ → ℕ → ℕ → Seen → Seen
+sentOut body h site clock seen =
     record {
-      site = clockTo (seen .site) (nextClock (seen .site));
+      site = clockTo (seen .site) clock;
       passage = seen .passage;
       visit = seen .visit;
-      message = plainMessage body (seen .passage .home) site h (nextClock (seen .site));
+      message = plainMessage body (seen .passage .home) site h clock;
       objects = seen .objects;
     }
 
@@ -106,7 +109,7 @@ abbrev pub askDone : ℕ → ℕ → ℕ → Seen → Decision
 askDone h site place seen =
     record {
       answer = firstOf (askChecks h site seen) place;
-      left = sentOut (askBody (seen .passage .round)) h site seen;
+      left = sentOut (askBody (seen .passage .round)) h site (nextClock (seen .site)) seen;
     }
 
 unfoldable pub askOf : ℕ → ℕ → ℕ → Seen → Decision
@@ -126,35 +129,36 @@ closeChecks h seen =
 abbrev pub roundTold : Round → Told
 roundTold r = toldOf (r .kind) (largestQuiesce r)
 
-abbrev pub closedPassage : Passage → Passage
-closedPassage p =
+abbrev pub closedPassage : Told → Passage → Passage
+closedPassage told p =
     record {
-      status = toldStatus (roundTold (p .round)) (p .status);
+      status = toldStatus told (p .status);
       home = p .home;
       round = withPhase (p .round) Phase.Two;
       generation = p .generation;
     }
 
+abbrev pub objectsWhereThere : Visit → List Object → List Object → List Object
+objectsWhereThere v changed os = cond (v .there) changed os
+
+-- what a close leaves at this clock, where the round tells this.
 -- "a close after the home visit was swept, say": the visit's part, its objects with it, does nothing, and the rest is done
+abbrev pub closed : Told → ℕ → ℕ → Seen → Seen
+closed told slot clock seen =
+    record {
+      site = clockTo (seen .site) clock;
+      passage = closedPassage told (seen .passage);
+      visit = whereThere (seen .visit) (toldVisit told (seen .visit));
+      message = seen .message;
+      objects =
+          objectsWhereThere (seen .visit) (toldObjects told slot (seen .objects)) (seen .objects);
+    }
+
 abbrev pub closeDone : ℕ → Seen → Decision
 closeDone h seen =
     record {
       answer = firstOf (closeChecks h seen) (answerCount (seen .passage .round));
-      left =
-          record {
-            site = clockTo (seen .site) (nextClock (seen .site));
-            passage = closedPassage (seen .passage);
-            visit =
-                whereThere
-                (seen .visit)
-                (toldVisit (roundTold (seen .passage .round)) (seen .visit));
-            message = seen .message;
-            objects =
-                cond
-                (seen .visit .there)
-                (toldObjects (roundTold (seen .passage .round)) (slotOf h) (seen .objects))
-                (seen .objects);
-          };
+      left = closed (roundTold (seen .passage .round)) (slotOf h) (nextClock (seen .site)) seen;
     }
 
 unfoldable pub closeOf : ℕ → Seen → Decision
@@ -182,7 +186,7 @@ abbrev pub tellDone : ℕ → ℕ → ℕ → Seen → Decision
 tellDone h site place seen =
     record {
       answer = firstOf (tellChecks h site seen) place;
-      left = sentOut (tellBody (seen .passage .round)) h site seen;
+      left = sentOut (tellBody (seen .passage .round)) h site (nextClock (seen .site)) seen;
     }
 
 unfoldable pub tellOf : ℕ → ℕ → ℕ → Seen → Decision

@@ -103,12 +103,16 @@ losesHome site p = isRunning (p .status) && eqb (p .home) site
 abbrev pub crashedVisit : Bool → ℕ → Visit → Visit
 crashedVisit homeless clock v = cond (homeless || not (v .prepared)) (quieted v clock false true) v
 
--- one slot of a crash: such a passage "becomes aborted, phase none"
+-- such a passage "becomes aborted, phase none"
+abbrev pub crashedPassage : Bool → Passage → Passage
+crashedPassage homeless p = cond homeless (abortedPassage p) p
+
+-- one slot of a crash
 unfoldable pub crashedSlot : ℕ → ℕ → Seen → Seen
 crashedSlot site slot seen =
     record {
       site = seen .site;
-      passage = cond (losesHome site (seen .passage)) (abortedPassage (seen .passage)) (seen .passage);
+      passage = crashedPassage (losesHome site (seen .passage)) (seen .passage);
       visit =
           whereThere
           (seen .visit)

@@ -1,0 +1,2 @@
+-- A law that the proofs of calls cite. Assumes nothing.
+pub mod Received

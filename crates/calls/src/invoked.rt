@@ -1,0 +1,169 @@
+// A call goes out, and a message is lost.
+use checks::bad_handle;
+use checks::bad_message;
+use checks::bad_site;
+use checks::clock_full;
+use checks::first_of;
+use checks::is_full;
+use checks::never;
+use checks::no_mail;
+use checks::no_passage;
+use checks::refuse;
+use checks::settle;
+use checks::site_down;
+use checks::visit_missing;
+use parts::passages::no_message;
+use parts::passages::plain_message;
+use parts::visits::clock_to;
+use parts::visits::count_sent;
+use rules::answers::Decision;
+use rules::answers::Refusal;
+use rules::answers::Seen;
+use rules::tables::Body;
+use rules::tables::Call;
+use rules::tables::Visit;
+ghost use Prim.Native.Nat.{_≤_, _<_};
+ghost use mathlib.Core.Path.{_≡_};
+ghost use Rattle.rules.specs.Sane.{Sane};
+ghost use Rattle.rules.specs.Calls.{callSite, badCall, isSentOut, callOf, invoked, invokeOf, lost, dropOf};
+
+// The site of the object that is called.
+fn call_site(object: u8) -> u8
+    ensures { λ r. ⌜ (r ≡ callSite object) × (r < 8) ⌝ }
+{
+    object / 4 % 8
+}
+
+// A field out of range, or a read with a value.
+fn bad_call(h: u16, site: u8, write: u8, object: u8, value: u32) -> bool
+    ensures { λ r. ⌜ r ≡ badCall h site write object value ⌝ }
+{
+    bad_handle(h)
+        | bad_site(site)
+        | (1 < write)
+        | (31 < object)
+        | (1000000 < value)
+        | ((write == 0) & !(value == 0))
+}
+
+// A call with the visit's times and round.
+fn call_of(write: u8, object: u8, value: u32, v: Visit) -> Call
+    ensures { λ r. ⌜ r ≡ callOf write object value v ⌝ }
+{
+    Call {
+        quiesce: v.quiesce,
+        release: v.release,
+        round: v.round,
+        object: object,
+        write: write == 1,
+        value: value,
+    }
+}
+
+// What an invoke leaves at this clock, for this call.
+fn invoked(h: u16, site: u8, call: Call, clock: u64, seen: Seen) -> Seen
+    requires { ⌜ Sane seen ⌝ }
+    ensures { λ r. ⌜ r ≡ invoked h site call clock seen ⌝ }
+{
+    let to = call_site(call.object);
+    let s = seen.site;
+    let v = seen.visit;
+    let moved = clock_to(s, clock);
+    let passage = seen.passage;
+    let visit = count_sent(v, to as usize);
+    let message = plain_message(Body::Call(call), site, to, h, clock);
+    let objects = seen.objects;
+    Seen {
+        site: moved,
+        passage: passage,
+        visit: visit,
+        message: message,
+        objects: objects,
+    }
+}
+
+// Whether the visit has sent all the calls that it may to the object's site.
+fn is_sent_out(object: u8, v: Visit) -> bool
+    ensures { λ r. ⌜ r ≡ isSentOut object v ⌝ }
+{
+    let to = call_site(object) as usize;
+    1000 <= v.sent[to]
+}
+
+// 3. invoke, where place is the lowest empty message slot.
+pub fn invoke(
+    h: u16,
+    site: u8,
+    write: u8,
+    object: u8,
+    value: u32,
+    place: usize,
+    seen: Seen,
+) -> Decision
+    requires { ⌜ Sane seen ⌝ }
+    ensures { λ r. ⌜ r ≡ invokeOf h site write object value place seen ⌝ }
+{
+    let s = seen.site;
+    let v = seen.visit;
+    let clock = s.clock + 1;
+    let checks = [
+        refuse(Refusal::BadField, bad_call(h, site, write, object, value)),
+        no_passage(h, seen),
+        site_down(seen),
+        visit_missing(seen),
+        clock_full(clock),
+        refuse(Refusal::Quiesced, (v.quiesce as u64 <= clock) | v.dead),
+        refuse(Refusal::Full, is_full(seen) | is_sent_out(object, v)),
+    ];
+    let answer = first_of(checks, place as u64);
+    let left = invoked(h, site, call_of(write, object, value, v), clock, seen);
+    settle(
+        Decision {
+            answer: answer,
+            left: left,
+        },
+        seen,
+    )
+}
+
+// What a drop leaves: the message slot empty.
+fn lost(seen: Seen) -> Seen
+    ensures { λ r. ⌜ r ≡ lost seen ⌝ }
+{
+    let site = seen.site;
+    let passage = seen.passage;
+    let visit = seen.visit;
+    let message = no_message();
+    let objects = seen.objects;
+    Seen {
+        site: site,
+        passage: passage,
+        visit: visit,
+        message: message,
+        objects: objects,
+    }
+}
+
+// 12. drop
+pub fn drop(m: u8, seen: Seen) -> Decision
+    ensures { λ r. ⌜ r ≡ dropOf m seen ⌝ }
+{
+    let checks = [
+        refuse(Refusal::BadField, bad_message(m)),
+        no_mail(seen),
+        never(),
+        never(),
+        never(),
+        never(),
+        never(),
+    ];
+    let answer = first_of(checks, 0);
+    let left = lost(seen);
+    settle(
+        Decision {
+            answer: answer,
+            left: left,
+        },
+        seen,
+    )
+}

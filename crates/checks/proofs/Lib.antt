@@ -1,0 +1,2 @@
+-- Laws that the proofs of checks cite. Assumes nothing.
+pub mod Order

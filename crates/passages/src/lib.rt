@@ -1,0 +1,219 @@
+// The steps of a passage's life: 2 begin, 10 abort, 16 retire.
+// Each equals its definition in rules' specs/Passages.antt: the checks in the order of the refusal table, then the records that are left.
+use checks::bad_handle;
+use checks::bad_site;
+use checks::bad_times;
+use checks::clock_full;
+use checks::first_of;
+use checks::never;
+use checks::no_passage;
+use checks::refuse;
+use checks::settle;
+use checks::site_down;
+use parts::passages::aborted_passage;
+use parts::passages::is_free;
+use parts::passages::is_over;
+use parts::passages::is_running;
+use parts::rounds::no_round;
+use parts::visits::clock_to;
+use parts::visits::new_visit;
+use parts::visits::quieted;
+use parts::visits::where_there;
+use rules::answers::Decision;
+use rules::answers::Refusal;
+use rules::answers::Seen;
+use rules::tables::Passage;
+use rules::tables::Status;
+ghost use Prim.Native.Nat.{_+_, _*_};
+ghost use mathlib.Core.Path.{_≡_};
+ghost use Rattle.rules.specs.Sane.{Sane};
+ghost use Rattle.rules.specs.Tables.{handleOf, freeSlot};
+ghost use Rattle.rules.specs.Passages.{begunPassage, begun, beginOf, aborted, abortOf, nextGeneration, retired, retireOf};
+
+// An active passage with this home, round 0, in the slot's generation.
+fn begun_passage(home: u8, p: Passage) -> Passage
+    ensures { λ r. ⌜ r ≡ begunPassage home p ⌝ }
+{
+    let round = no_round();
+    Passage {
+        status: Status::Active,
+        home: home,
+        round: round,
+        generation: p.generation,
+    }
+}
+
+// slot + 16 * generation
+fn handle_of(slot: u8, generation: u8) -> u64
+    ensures { λ r. ⌜ r ≡ handleOf slot generation ⌝ }
+{
+    slot as u64 + 16 * (generation as u64)
+}
+
+// 2. begin: an active passage and its home visit.
+pub fn begin(home: u8, slot: u8, quiesce: u32, release: u32, seen: Seen) -> Decision
+    requires { ⌜ Sane seen ⌝ }
+    ensures { λ r. ⌜ r ≡ beginOf home slot quiesce release seen ⌝ }
+{
+    let s = seen.site;
+    let p = seen.passage;
+    let status = p.status;
+    let clock = s.clock + 1;
+    let checks = [
+        refuse(
+            Refusal::BadField,
+            bad_site(home) | (15 < slot) | bad_times(quiesce, release),
+        ),
+        site_down(seen),
+        refuse(Refusal::WrongState, !is_free(status)),
+        clock_full(clock),
+        refuse(Refusal::Quiesced, quiesce as u64 <= clock),
+        never(),
+        never(),
+    ];
+    let answer = first_of(checks, handle_of(slot, p.generation));
+    let left = begun(home, quiesce, release, clock, seen);
+    settle(
+        Decision {
+            answer: answer,
+            left: left,
+        },
+        seen,
+    )
+}
+
+// What a begin leaves at this clock.
+fn begun(home: u8, quiesce: u32, release: u32, clock: u64, seen: Seen) -> Seen
+    ensures { λ r. ⌜ r ≡ begun home quiesce release clock seen ⌝ }
+{
+    let s = seen.site;
+    let p = seen.passage;
+    let site = clock_to(s, clock);
+    let passage = begun_passage(home, p);
+    let visit = new_visit(quiesce, release, 0);
+    let message = seen.message;
+    let objects = seen.objects;
+    Seen {
+        site: site,
+        passage: passage,
+        visit: visit,
+        message: message,
+        objects: objects,
+    }
+}
+
+// What an abort leaves at this clock: the passage aborted, its home visit quiet and unprepared.
+fn aborted(clock: u64, seen: Seen) -> Seen
+    ensures { λ r. ⌜ r ≡ aborted clock seen ⌝ }
+{
+    let s = seen.site;
+    let p = seen.passage;
+    let v = seen.visit;
+    let site = clock_to(s, clock);
+    let passage = aborted_passage(p);
+    let visit = where_there(v, quieted(v, clock, false, v.dead));
+    let message = seen.message;
+    let objects = seen.objects;
+    Seen {
+        site: site,
+        passage: passage,
+        visit: visit,
+        message: message,
+        objects: objects,
+    }
+}
+
+// 10. abort
+pub fn abort(h: u16, seen: Seen) -> Decision
+    requires { ⌜ Sane seen ⌝ }
+    ensures { λ r. ⌜ r ≡ abortOf h seen ⌝ }
+{
+    let s = seen.site;
+    let p = seen.passage;
+    let status = p.status;
+    let clock = s.clock + 1;
+    let checks = [
+        refuse(Refusal::BadField, bad_handle(h)),
+        no_passage(h, seen),
+        site_down(seen),
+        refuse(Refusal::WrongState, !is_running(status)),
+        clock_full(clock),
+        never(),
+        never(),
+    ];
+    let answer = first_of(checks, 0);
+    let left = aborted(clock, seen);
+    settle(
+        Decision {
+            answer: answer,
+            left: left,
+        },
+        seen,
+    )
+}
+
+// 255 is followed by 0.
+fn next_generation(generation: u8) -> u8
+    ensures { λ r. ⌜ r ≡ nextGeneration generation ⌝ }
+{
+    std::num::wrapping_add_u8(generation, 1)
+}
+
+// A free slot, in the generation after this one.
+fn freed_slot(p: Passage) -> Passage
+    ensures { λ r. ⌜ r ≡ freeSlot (nextGeneration (p .generation)) ⌝ }
+{
+    let round = no_round();
+    let generation = next_generation(p.generation);
+    Passage {
+        status: Status::Free,
+        home: 0,
+        round: round,
+        generation: generation,
+    }
+}
+
+// What a retire leaves: the slot free, its generation moved on.
+fn retired(seen: Seen) -> Seen
+    ensures { λ r. ⌜ r ≡ retired seen ⌝ }
+{
+    let site = seen.site;
+    let p = seen.passage;
+    let passage = freed_slot(p);
+    let visit = seen.visit;
+    let message = seen.message;
+    let objects = seen.objects;
+    Seen {
+        site: site,
+        passage: passage,
+        visit: visit,
+        message: message,
+        objects: objects,
+    }
+}
+
+// 16. retire, where remains says whether a visit or message of the slot does.
+pub fn retire(h: u16, remains: bool, seen: Seen) -> Decision
+    ensures { λ r. ⌜ r ≡ retireOf h remains seen ⌝ }
+{
+    let p = seen.passage;
+    let status = p.status;
+    let checks = [
+        refuse(Refusal::BadField, bad_handle(h)),
+        no_passage(h, seen),
+        refuse(Refusal::WrongState, !is_over(status) | remains),
+        never(),
+        never(),
+        never(),
+        never(),
+    ];
+    let answer = first_of(checks, 0);
+    let left = retired(seen);
+    settle(
+        Decision {
+            answer: answer,
+            left: left,
+        },
+        seen,
+    )
+}
