@@ -1,0 +1,4 @@
+// A step on the tables.
+pub mod decide;
+pub mod look;
+pub mod turns;
