@@ -1,4 +1,44 @@
-// A step on the tables.
+// A step on the tables: number 20, then look, decide, store, and for a sweep or a crash the sixteen slots.
+// `step` and `step_record` are for users. What a runner uses, that holds the tables itself, is in look, decide and turns.
 pub mod decide;
 pub mod look;
 pub mod turns;
+mod whole;
+
+use rules::answers::Answer;
+use rules::answers::Outcome;
+use rules::answers::Refusal;
+use rules::steps::Step;
+use rules::tables::Tables;
+use tables::ranges::in_range;
+ghost use mathlib.Core.Path.{_≡_};
+ghost use Rattle.rules.specs.Machine.{stepOf};
+ghost use Rattle.rules.specs.Record.{stepRecordOf};
+
+// The answer and the next tables for any tables and any step.
+pub fn step(t: Tables, s: Step) -> Outcome
+    ensures { λ r. ⌜ r ≡ stepOf t s ⌝ }
+{
+    if in_range(t) {
+        whole::step_in_range(t, s)
+    } else {
+        Outcome {
+            answer: Answer::Refused(Refusal::OutOfRange),
+            tables: t,
+        }
+    }
+}
+
+// The same for a record of 16 bytes: 20, then 1, then the step that it stands for.
+pub fn step_record(t: Tables, bytes: [u8; 16]) -> Outcome
+    ensures { λ r. ⌜ r ≡ stepRecordOf t bytes ⌝ }
+{
+    if in_range(t) {
+        whole::record_in_range(t, bytes)
+    } else {
+        Outcome {
+            answer: Answer::Refused(Refusal::OutOfRange),
+            tables: t,
+        }
+    }
+}

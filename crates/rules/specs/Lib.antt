@@ -19,10 +19,12 @@ pub mod StoredLaws
 pub mod Sane
 pub mod Record
 pub mod RefusedLaws
+pub mod RecordLaws
 pub mod RangesLaws
 pub mod RangesFits
 pub mod RangesKept
 pub mod Runs
 pub mod Sheet
+pub mod SheetLaws
 pub mod Listing
 pub mod Cases

@@ -1,0 +1,2 @@
+-- Laws that the proofs of machine cite. Assumes nothing.
+pub mod Trips

@@ -1,0 +1,102 @@
+-- Laws of a trip through a site's slots: its places exist, a turn is what it sees, counts and leaves, and it counts from 0. Assumes nothing.
+use Prim.Native.Nat.{ℕ, zero, suc, _+_, _≤_, _<_}
+use native.Mathlib.Omega.{arith}
+use native.Mathlib.Nat.{le-refl}
+use mathlib.Core.Path.{_≡_, refl, sym, ap, _∙_}
+use mathlib.Core.Logic.{⊎-elim}
+use mathlib.Core.Bool.{Bool, true, false, cond}
+use mathlib.Core.List.{List, [], _∷_}
+use Rattle.rules.specs.declared.tables.Tables.{Tables}
+use Rattle.rules.specs.declared.steps.Step.{Step}
+use Rattle.rules.specs.declared.answers.Answer.{Answer}
+use Rattle.rules.specs.declared.answers.Check.{Check}
+use Rattle.rules.specs.declared.answers.Outcome.{Outcome}
+use Rattle.rules.specs.declared.answers.Places.{Places}
+use Rattle.rules.specs.declared.answers.Trip.{Trip}
+use Rattle.rules.specs.Ranges.{inRange}
+use Rattle.rules.specs.RangesLaws.{placed-slots, seen-in-range}
+use Rattle.rules.specs.RangesFits.{sane-seen}
+use Rattle.rules.specs.Sane.{Sane}
+use Rattle.rules.specs.Loops.{oneIf}
+use Rattle.rules.specs.LoopsLaws.{either}
+use Rattle.rules.specs.Answers.{answerValue, firstOf, isAccepted}
+use Rattle.rules.specs.Stations.{sweepOf, sweepChecks}
+use Rattle.rules.specs.StoredLaws.{Placed, stored-seen}
+use Rattle.rules.specs.Machine.{lookOf, placesOf, seenOf, stored, decideOf, headOf, countOne, sweepTurn, crashTurn, turnOf, turnCount}
+use Rattle.machine.specs.Turns.{tripPlaces, turnSeen, turnAnswer, tripValue}
+
+pub placed-trip : (trip : Trip) (slot : ℕ) → slot < 16 → Placed (tripPlaces trip slot)
+placed-trip Trip.Nowhere slot h = placed-slots 0 slot h
+placed-trip (Trip.Sweep site) slot h = placed-slots site slot h
+placed-trip (Trip.Crash site) slot h = placed-slots site slot h
+
+-- what is seen of tables in range, at places that exist, is sane
+pub sane-at : (t : Tables) (at : Places) → inRange t ≡ true → Placed at → Sane (seenOf t at)
+sane-at t at r h = sane-seen (seenOf t at) (seen-in-range t at r h)
+
+-- a turn, put together of what it sees
+abbrev pub turnMade : Trip → ℕ → Outcome → Outcome
+turnMade trip slot o =
+    record {
+      answer = turnAnswer trip (o .answer) (seenOf (o .tables) (tripPlaces trip slot));
+      tables =
+          stored
+          (o .tables)
+          (tripPlaces trip slot)
+          (turnSeen trip slot (seenOf (o .tables) (tripPlaces trip slot)));
+    }
+
+pub turn-is-made : (trip : Trip) (slot : ℕ) (o : Outcome) → turnMade trip slot o ≡ turnOf trip slot o
+unfolding sweepTurn crashTurn
+turn-is-made Trip.Nowhere slot o = rw (stored-seen (o .tables) (tripPlaces Trip.Nowhere slot))
+turn-is-made (Trip.Sweep site) slot o = refl
+turn-is-made (Trip.Crash site) slot o = refl
+
+-- a turn counts at most one
+one-if-most : (b : Bool) → oneIf b ≤ 1
+one-if-most true = le-refl 1
+one-if-most false = omega arith
+
+count-most : (a : Answer) (b : Bool) (n : ℕ) → answerValue a ≤ n → answerValue (countOne a b) ≤ n + 1
+count-most (Answer.Accepted v) b n h = let k : oneIf b ≤ 1 = one-if-most b in omega arith
+count-most (Answer.Refused r) b n h = omega arith
+
+pub turn-counts : (trip : Trip) (slot : ℕ) (o : Outcome) → tripValue trip (o .answer) ≤ slot → tripValue trip (turnOf trip slot o .answer) ≤ slot + 1
+unfolding sweepTurn crashTurn
+turn-counts Trip.Nowhere slot o h = omega arith
+turn-counts (Trip.Sweep site) slot o h = count-most (o .answer) _ slot h
+turn-counts (Trip.Crash site) slot o h = omega arith
+
+-- a trip starts at 0: an accepted sweep's head has value 0
+first-value : (cs : List Check) → answerValue (firstOf cs 0) ≡ 0
+unfolding firstOf
+first-value [] = refl
+first-value (c ∷ cs) = ⊎-elim (λ e. rw e) (λ e. rw e (first-value cs)) (either (c .holds))
+
+pub trip-starts : (t : Tables) (step : Step) → tripValue (lookOf step .trip) (headOf t step .answer) ≡ 0
+unfolding headOf decideOf sweepOf
+trip-starts t (Step.Tick site n) = refl
+trip-starts t (Step.Begin home slot q r) = refl
+trip-starts t (Step.Invoke h site write object value) = refl
+trip-starts t (Step.Refresh h q r) = refl
+trip-starts t (Step.Terminate h) = refl
+trip-starts t (Step.Prepare h) = refl
+trip-starts t (Step.Ask h site) = refl
+trip-starts t (Step.Close h) = refl
+trip-starts t (Step.Tell h site) = refl
+trip-starts t (Step.Abort h) = refl
+trip-starts t (Step.Deliver m) = refl
+trip-starts t (Step.Drop m) = refl
+trip-starts t (Step.Sweep site) = first-value (sweepChecks site (seenOf t (placesOf t (lookOf (Step.Sweep site)))))
+trip-starts t (Step.Crash site) = refl
+trip-starts t (Step.Recover site) = refl
+trip-starts t (Step.Retire h) = refl
+
+sixteen-most : (b : Bool) → cond b 16 0 ≤ 16
+sixteen-most true = le-refl 16
+sixteen-most false = omega arith
+
+pub turn-count-most : (trip : Trip) (answer : Answer) → turnCount trip answer ≤ 16
+turn-count-most Trip.Nowhere answer = omega arith
+turn-count-most (Trip.Sweep site) answer = sixteen-most (isAccepted answer)
+turn-count-most (Trip.Crash site) answer = sixteen-most (isAccepted answer)
