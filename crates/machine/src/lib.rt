@@ -3,7 +3,7 @@
 pub mod decide;
 pub mod look;
 pub mod turns;
-mod whole;
+pub mod whole;
 
 use rules::answers::Answer;
 use rules::answers::Outcome;
@@ -12,8 +12,18 @@ use rules::steps::Step;
 use rules::tables::Tables;
 use tables::ranges::in_range;
 ghost use mathlib.Core.Path.{_≡_};
-ghost use Rattle.rules.specs.Machine.{stepOf};
+ghost use Rattle.rules.specs.Machine.{refusedAll, stepOf};
 ghost use Rattle.rules.specs.Record.{stepRecordOf};
+
+// Number 20, and the tables as they stood.
+fn out_of_range(t: Tables) -> Outcome
+    ensures { λ r. ⌜ r ≡ refusedAll t ⌝ }
+{
+    Outcome {
+        answer: Answer::Refused(Refusal::OutOfRange),
+        tables: t,
+    }
+}
 
 // The answer and the next tables for any tables and any step.
 pub fn step(t: Tables, s: Step) -> Outcome
@@ -22,10 +32,7 @@ pub fn step(t: Tables, s: Step) -> Outcome
     if in_range(t) {
         whole::step_in_range(t, s)
     } else {
-        Outcome {
-            answer: Answer::Refused(Refusal::OutOfRange),
-            tables: t,
-        }
+        out_of_range(t)
     }
 }
 
@@ -36,9 +43,6 @@ pub fn step_record(t: Tables, bytes: [u8; 16]) -> Outcome
     if in_range(t) {
         whole::record_in_range(t, bytes)
     } else {
-        Outcome {
-            answer: Answer::Refused(Refusal::OutOfRange),
-            tables: t,
-        }
+        out_of_range(t)
     }
 }

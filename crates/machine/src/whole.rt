@@ -240,7 +240,7 @@ pub(crate) fn step_in_range(t: Tables, step: Step) -> Outcome
 }
 
 // A record on tables that are in range: a record that stands for no step is refused by 1.
-pub(crate) fn record_in_range(t: Tables, bytes: [u8; 16]) -> Outcome
+pub fn record_in_range(t: Tables, bytes: [u8; 16]) -> Outcome
     requires { ⌜ inRange t ≡ true ⌝ }
     ensures { λ r. ⌜ r ≡ recordInRangeOf t bytes ⌝ }
 {

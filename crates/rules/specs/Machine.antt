@@ -210,10 +210,13 @@ stepInRangeOf t step =
     let head : Outcome = headOf t step in
     turnsUpTo (lookOf step .trip) head (turnCount (lookOf step .trip) (head .answer))
 
--- "20 tried first", and "all tables stay"
+-- refused by 20: "all tables stay"
+abbrev pub refusedAll : Tables → Outcome
+refusedAll t = record { answer = Answer.Refused Refusal.OutOfRange; tables = t }
+
+-- "20 tried first"
 abbrev pub unlessOutOfRange : Tables → Outcome → Outcome
-unlessOutOfRange t done =
-    cond (inRange t) done (record { answer = Answer.Refused Refusal.OutOfRange; tables = t })
+unlessOutOfRange t done = cond (inRange t) done (refusedAll t)
 
 unfoldable pub stepOf : Tables → Step → Outcome
 stepOf t step = unlessOutOfRange t (stepInRangeOf t step)
