@@ -1,0 +1,2 @@
+-- What the proof of the digits cites. Assumes nothing.
+mod Digits

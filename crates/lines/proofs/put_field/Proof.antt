@@ -1,0 +1,30 @@
+-- `lines::put_field` meets its contract. A space and a number are put one after the other.
+-- Assumes nothing.
+use native.Mathlib.Omega.{arith}
+use Prim.Native.Nat.{_≤_}
+use lib.ListN.{length}
+use denote.Ref.{now}
+use Rattle.lines.specs.Text.{put-both}
+use borrow.Author.Needs.{needs}
+use Rattle.lines.proofs.put_field.Statement.{statement}
+use Rattle.lines.proofs.put_field.Tie as tie
+
+put-byte-requires : tie.Need-put-byte-requires
+put-byte-requires c κs = search needs
+
+put-decimal-requires : tie.Need-put-decimal-requires
+put-decimal-requires c κs = search needs
+
+same-length : tie.Need-same-length
+same-length c = search needs
+
+returns : tie.Need-returns
+returns c =
+    let number = c .before .before in
+    let space = number .before .before .before .before in
+    let start = space .before .before .before in
+    let l : start .args .at ≤ length (now (start .args .out)) = omega arith in
+    put-both l (space .put-byte .ensures) (number .put-decimal .ensures)
+
+pub put-field-spec : {M : Type 1} → statement M
+put-field-spec = tie.close (tie.spec put-byte-requires put-decimal-requires same-length returns)

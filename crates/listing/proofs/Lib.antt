@@ -1,0 +1,4 @@
+-- Laws that the proofs of listing cite. Assumes nothing.
+pub mod Sixteen
+pub mod Printed
+pub mod Taken

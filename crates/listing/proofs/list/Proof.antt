@@ -1,0 +1,75 @@
+use Prim.Native.Nat.{_*_, _/_, _≤_, zero-le}
+use native.Mathlib.Omega.{arith}
+use mathlib.Core.Path.{_≡_, sym, _∙_}
+use lib.ListN.{length}
+use Rattle.rules.specs.Sheet.{sheetRecords}
+use Rattle.rules.specs.Listing.{sheetLine}
+use Rattle.lines.specs.Text.{put-front, sheet-line-length}
+use Rattle.listing.proofs.Taken.{taken-room, listing-taken, listing-refused}
+use borrow.Author.Needs.{needs}
+use Rattle.rules.specs.Listing.{listingOf}
+use Rattle.listing.proofs.list.Statement.{statement}
+use Rattle.listing.proofs.list.Tie as tie
+use Rattle.listing.proofs.list.Reads as reads
+use Rattle.listing.proofs.list.Lts as lts
+use Rattle.lines.proofs.put_sheet_line.Reads as put-sheet-line-reads
+use Rattle.listing.proofs.put_lines.Reads as put-lines-reads
+use Rattle.listing.proofs.sheet_number.Reads as sheet-number-reads
+use Rattle.sheet.proofs.sheet_answer.Reads as sheet-answer-reads
+use Rattle.sheet.proofs.sheet_records.Reads as sheet-records-reads
+
+-- src/lib.rt:77:9
+sheet-answer-requires : tie.Need-sheet-answer-requires
+sheet-answer-requires c κs = search needs
+
+enum-told : tie.Need-enum-told
+enum-told c = search needs
+
+-- src/lib.rt:79:39
+sheet-number-requires : tie.Need-sheet-number-requires
+sheet-number-requires c κs = search needs
+
+-- src/lib.rt:79:9
+put-sheet-line-requires : tie.Need-put-sheet-line-requires
+put-sheet-line-requires c κs = search needs
+
+-- src/lib.rt:79:9
+returns : tie.Need-returns
+returns c =
+    let k : length (sheetLine (c .before .sheet-number .result)) ≤ 27 = sheet-line-length (c .before .sheet-number .result) in
+    let e = c .put-sheet-line .ensures .ends in (
+      put-front zero-le (c .put-sheet-line .ensures)
+          ∙ rw (c .before .sheet-number .ensures)
+          (listing-refused (c .before .before .before .before .before .before .args .sheet .now) (c .before .before .before .before .sheet-answer .result) (c .before .before .before .before .sheet-answer .ensures) (c .before .before .before .match .keys2)),
+      omega arith,
+    )
+
+-- src/lib.rt:81:9
+sheet-records-requires : tie.Need-sheet-records-requires
+sheet-records-requires c κs = search needs
+
+-- src/lib.rt:83:5
+put-lines-requires : tie.Need-put-lines-requires
+put-lines-requires c κs =
+    let l : length (c .before .before .before .before .before .before .args .out .now) ≡ 262144 = search needs in
+    (omega arith, rw (c .before .sheet-records .ensures, l) (taken-room (c .before .before .before .before .before .before .args .sheet .now) (sym (c .before .before .before .before .sheet-answer .ensures) ∙ c .before .before .enum-told .given .1)))
+
+-- src/lib.rt:74:1
+returns-2 : tie.Need-returns-2
+returns-2 c =
+    let r : 64 * (length (sheetRecords (c .before .before .before .before .before .before .before .args .sheet .now)) / 16) ≤ 262144 = taken-room (c .before .before .before .before .before .before .before .args .sheet .now) (sym (c .before .before .before .before .before .sheet-answer .ensures) ∙ c .before .before .before .enum-told .given .1) in
+    let m : c .put-lines .result ≤ 64 * (length (sheetRecords (c .before .before .before .before .before .before .before .args .sheet .now)) / 16) = rw (c .before .before .sheet-records .ensures) at (c .put-lines .ensures .1) in
+    (c .put-lines .ensures .0 ∙ rw (c .before .before .sheet-records .ensures) (listing-taken (c .before .before .before .before .before .before .before .args .sheet .now) (sym (c .before .before .before .before .before .sheet-answer .ensures) ∙ c .before .before .before .enum-told .given .1)), omega arith)
+
+pub list-spec : {M : Type 1} → statement M
+list-spec =
+    tie.close
+    (tie.spec
+    sheet-answer-requires
+    enum-told
+    sheet-number-requires
+    put-sheet-line-requires
+    returns
+    sheet-records-requires
+    put-lines-requires
+    returns-2)
