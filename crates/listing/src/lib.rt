@@ -72,7 +72,7 @@ fn put_lines(part: &[u8], n: usize, out: &mut [u8]) -> usize
 
 // The whole text of a sheet's listing, at the front of the caller's buffer, which has room for any; the answer is its length.
 pub fn list(sheet: &[u8], out: &mut [u8; 262144]) -> usize
-    ensures { λ r. ⌜ (take r (now (out .exit)) ≡ listingOf (now (sheet .entry))) × (r ≤ 262144) ⌝ }
+    ensures { λ r. ⌜ (take r (now (out .exit)) ≡ listingOf (now (sheet .entry))) × (r ≤ length (now (out .exit))) ⌝ }
 {
     let answer = sheet_answer(sheet);
     let SheetAnswer::Taken = answer else {

@@ -57,9 +57,10 @@ put-lines-requires c κs =
 -- src/lib.rt:74:1
 returns-2 : tie.Need-returns-2
 returns-2 c =
+    let l : length (c .before .before .before .before .before .before .before .args .out .now) ≡ 262144 = search needs in
     let r : 64 * (length (sheetRecords (c .before .before .before .before .before .before .before .args .sheet .now)) / 16) ≤ 262144 = taken-room (c .before .before .before .before .before .before .before .args .sheet .now) (sym (c .before .before .before .before .before .sheet-answer .ensures) ∙ c .before .before .before .enum-told .given .1) in
     let m : c .put-lines .result ≤ 64 * (length (sheetRecords (c .before .before .before .before .before .before .before .args .sheet .now)) / 16) = rw (c .before .before .sheet-records .ensures) at (c .put-lines .ensures .1) in
-    (c .put-lines .ensures .0 ∙ rw (c .before .before .sheet-records .ensures) (listing-taken (c .before .before .before .before .before .before .before .args .sheet .now) (sym (c .before .before .before .before .before .sheet-answer .ensures) ∙ c .before .before .before .enum-told .given .1)), omega arith)
+    (c .put-lines .ensures .0 ∙ rw (c .before .before .sheet-records .ensures) (listing-taken (c .before .before .before .before .before .before .before .args .sheet .now) (sym (c .before .before .before .before .before .sheet-answer .ensures) ∙ c .before .before .before .enum-told .given .1)), omega (arith, c .put-lines .kept .1 .1 .0))
 
 pub list-spec : {M : Type 1} → statement M
 list-spec =
