@@ -8,7 +8,8 @@ use sheet::sheet_records;
 use tables::start::start;
 ghost use Prim.Native.Nat.{_+_, _*_, _≤_, _<_};
 ghost use mathlib.Core.Path.{_≡_};
-ghost use lib.ListN.{length, take, getD};
+ghost use lib.ListN.{length};
+ghost use Rattle.lines.specs.Text.{Puts};
 ghost use Rattle.rules.specs.Sheet.{sheetNumber, recordAt};
 ghost use Rattle.rules.specs.Listing.{printedUpTo, listingOf};
 
@@ -53,7 +54,7 @@ fn sheet_number(answer: SheetAnswer) -> u64
 // The lines of the first n records of a part, run from the start.
 fn put_lines(part: &[u8], n: usize, out: &mut [u8]) -> usize
     requires { ⌜ (16 * n ≤ length (now part)) × (64 * n ≤ length (now out)) ⌝ }
-    ensures { λ r. ⌜ (take r (now (out .exit)) ≡ printedUpTo (now (part .entry)) n .text) × (r ≤ 64 * n) ⌝ }
+    ensures { λ r. ⌜ Puts (now (out .entry)) 0 (printedUpTo (now (part .entry)) n .text) (now (out .exit)) r × (r ≤ 64 * n) ⌝ }
 {
     let mut t = start();
     let mut at: usize = 0;
@@ -71,8 +72,9 @@ fn put_lines(part: &[u8], n: usize, out: &mut [u8]) -> usize
 }
 
 // The whole text of a sheet's listing, at the front of the caller's buffer, which has room for any; the answer is its length.
+// The bytes behind the text stay as they were.
 pub fn list(sheet: &[u8], out: &mut [u8; 262144]) -> usize
-    ensures { λ r. ⌜ (take r (now (out .exit)) ≡ listingOf (now (sheet .entry))) × (r ≤ length (now (out .exit))) ⌝ }
+    ensures { λ r. ⌜ Puts (now (out .entry)) 0 (listingOf (now (sheet .entry))) (now (out .exit)) r × (r ≤ length (now (out .exit))) ⌝ }
 {
     let answer = sheet_answer(sheet);
     let SheetAnswer::Taken = answer else {

@@ -1,11 +1,12 @@
-use Prim.Native.Nat.{_+_, _*_, _-_, _≤_}
+use Prim.Native.Nat.{_+_, _*_, _-_, _≤_, zero-le}
 use native.Mathlib.Omega.{arith}
 use native.Mathlib.Numerals.{add-one}
 use mathlib.Core.Path.{_≡_, refl, _∙_}
 use borrow.Author.Needs.{needs}
-use lib.ListN.{length, take}
+use mathlib.Core.List.{_++_}
+use lib.ListN.{length}
 use Rattle.rules.specs.Listing.{lineOf}
-use Rattle.lines.specs.Text.{put-front, line-length}
+use Rattle.lines.specs.Text.{Puts, put-none, put-both, line-length}
 use Rattle.listing.proofs.Printed.{printed-in-range, printed-tables, printed-text}
 use Rattle.listing.proofs.put_lines.Statement.{statement}
 use Rattle.rules.specs.Listing.{printedUpTo}
@@ -20,7 +21,7 @@ use Rattle.tables.proofs.start.start.Reads as start-reads
 abbrev Inv-loop : tie.InvT-loop
 Inv-loop part n out₀ t₀ at₀ i₀ out t at i =
     (t ≡ printedUpTo part i .tables)
-    × (take at out ≡ printedUpTo part i .text)
+    × Puts out₀ 0 (printedUpTo part i .text) out at
     × (at ≤ 64 * i)
     × (i ≤ n)
     × (length out ≡ length out₀)
@@ -35,7 +36,7 @@ start-requires c κs = search needs
 -- src/lib.rt:59:5
 loop-holds : tie.Need-loop-holds Inv-loop μ-loop
 unfolding printedUpTo
-loop-holds c = (c .start .ensures, refl, search needs, search needs, refl)
+loop-holds c = (c .start .ensures, put-none _ 0, search needs, search needs, refl)
 
 -- src/lib.rt:60:13
 record-at-requires : tie.Need-record-at-requires Inv-loop μ-loop
@@ -64,15 +65,16 @@ loop-less c = omega arith
 -- src/lib.rt:59:5
 loop-again : tie.Need-loop-again Inv-loop μ-loop
 loop-again c =
-    let l : c .before .before .before .before .before .before .before .before .loop .at ≤ length (c .before .before .before .before .before .before .before .before .loop .out) = omega arith in
     let k : length (lineOf (c .before .before .before .before .before .before .before .before .loop .i + 1) (c .before .before .before .before .before .record-in-range .result .answer)) ≤ 63 =
     line-length (c .before .before .before .before .before .before .before .before .loop .i + 1) (c .before .before .before .before .before .record-in-range .result .answer) in
-    let e = c .before .before .put-line .ensures .ends in (
+    let e = c .before .before .put-line .ensures .ends in
+    let q :
+    printedUpTo (c .before .before .before .before .before .before .before .before .before .before .before .before .args .part .now) (c .before .before .before .before .before .before .before .before .loop .i) .text ++ lineOf (c .before .before .before .before .before .before .before .before .loop .i + 1) (c .before .before .before .before .before .record-in-range .result .answer)
+    ≡ printedUpTo (c .before .before .before .before .before .before .before .before .before .before .before .before .args .part .now) (c .before .before .before .before .before .before .before .before .loop .i + 1) .text =
+    rw (c .before .before .before .before .before .record-in-range .ensures, c .before .before .before .before .before .before .record-at .ensures, c .before .before .before .before .before .before .before .before .loop .inv .0) (printed-text (c .before .before .before .before .before .before .before .before .before .before .before .before .args .part .now) (c .before .before .before .before .before .before .before .before .loop .i)) in (
       rw (c .before .before .before .before .before .record-in-range .ensures, c .before .before .before .before .before .before .record-at .ensures, c .before .before .before .before .before .before .before .before .loop .inv .0)
           (printed-tables (c .before .before .before .before .before .before .before .before .before .before .before .before .args .part .now) (c .before .before .before .before .before .before .before .before .loop .i)),
-      put-front l (c .before .before .put-line .ensures)
-          ∙ rw (c .before .before .before .before .before .before .before .before .loop .inv .1, c .before .before .before .before .before .record-in-range .ensures, c .before .before .before .before .before .before .record-at .ensures, c .before .before .before .before .before .before .before .before .loop .inv .0)
-          (printed-text (c .before .before .before .before .before .before .before .before .before .before .before .before .args .part .now) (c .before .before .before .before .before .before .before .before .loop .i)),
+      rw q at (put-both zero-le (c .before .before .before .before .before .before .before .before .loop .inv .1) (c .before .before .put-line .ensures)),
       omega arith,
       omega arith,
       c .before .before .put-line .kept .0 ∙ c .before .before .before .before .before .before .before .before .loop .inv .4,
