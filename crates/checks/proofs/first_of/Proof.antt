@@ -1,3 +1,4 @@
+-- `checks::first_of` meets its contract. The loop carries what the definition gives up to the index, and each turn adds one more. Assumes nothing.
 use Prim.Native.Nat.{_≤_}
 use native.Mathlib.Omega.{arith}
 use mathlib.Core.Path.{_≡_, sym}
@@ -7,9 +8,6 @@ use Rattle.rules.specs.Answers.{firstOf}
 use Rattle.checks.proofs.Order.{first-of-none, first-of-more}
 use Rattle.checks.proofs.first_of.Statement.{statement}
 use Rattle.checks.proofs.first_of.Tie as tie
-use Rattle.checks.proofs.first_of.Reads as reads
-use Rattle.checks.proofs.first_of.Lts as lts
-use Rattle.checks.proofs.answer_or.Reads as answer-or-reads
 
 abbrev Inv-loop : tie.InvT-loop
 Inv-loop value checks answer₀ i₀ answer i = (answer ≡ firstOf (drop i checks) value) × (i ≤ 7)
@@ -17,33 +15,26 @@ Inv-loop value checks answer₀ i₀ answer i = (answer ≡ firstOf (drop i chec
 abbrev μ-loop : tie.MeasureT-loop
 μ-loop value checks answer₀ i₀ answer i = i
 
--- src/lib.rt:47:5
 loop-holds : tie.Need-loop-holds Inv-loop μ-loop
 loop-holds c =
     let l : length (c .args .t1) ≡ 7 = search needs in
     (sym (first-of-none (c .args .t1) 7 (c .args .value) (omega arith)), search needs)
 
--- src/lib.rt:48:9
 sub-i : tie.Need-sub-i Inv-loop μ-loop
 sub-i c = search needs
 
--- src/lib.rt:49:21
 mul-check : tie.Need-mul-check Inv-loop μ-loop
 mul-check c = search needs
 
--- src/lib.rt:49:21
 array-copy-out-check : tie.Need-array-copy-out-check Inv-loop μ-loop
 array-copy-out-check c = search needs
 
--- src/lib.rt:50:13
 answer-or-requires : tie.Need-answer-or-requires Inv-loop μ-loop
 answer-or-requires c κs = search needs
 
--- src/lib.rt:47:5
 loop-less : tie.Need-loop-less Inv-loop μ-loop
 loop-less c = search needs
 
--- src/lib.rt:47:5
 loop-again : tie.Need-loop-again Inv-loop μ-loop
 loop-again c =
     let l : length (c .before .before .before .before .args .t1) ≡ 7 = search needs in (
@@ -52,7 +43,6 @@ loop-again c =
       search needs,
     )
 
--- src/lib.rt:42:1
 returns : tie.Need-returns Inv-loop μ-loop
 returns c =
     let e : c .before .loop .i ≡ 0 = omega arith in rw e at (c .before .loop .inv .0)

@@ -1,3 +1,4 @@
+-- `listing::list` meets its contract. In each arm the case is known, and the callees give the rest. Assumes nothing.
 use Prim.Native.Nat.{_*_, _/_, _≤_, zero-le}
 use native.Mathlib.Omega.{arith}
 use mathlib.Core.Path.{_≡_, sym, _∙_}
@@ -10,30 +11,19 @@ use borrow.Author.Needs.{needs}
 use Rattle.rules.specs.Listing.{listingOf}
 use Rattle.listing.proofs.list.Statement.{statement}
 use Rattle.listing.proofs.list.Tie as tie
-use Rattle.listing.proofs.list.Reads as reads
-use Rattle.listing.proofs.list.Lts as lts
-use Rattle.lines.proofs.put_sheet_line.Reads as put-sheet-line-reads
-use Rattle.listing.proofs.put_lines.Reads as put-lines-reads
-use Rattle.listing.proofs.sheet_number.Reads as sheet-number-reads
-use Rattle.sheet.proofs.sheet_answer.Reads as sheet-answer-reads
-use Rattle.sheet.proofs.sheet_records.Reads as sheet-records-reads
 
--- src/lib.rt:77:9
 sheet-answer-requires : tie.Need-sheet-answer-requires
 sheet-answer-requires c κs = search needs
 
 enum-told : tie.Need-enum-told
 enum-told c = search needs
 
--- src/lib.rt:79:39
 sheet-number-requires : tie.Need-sheet-number-requires
 sheet-number-requires c κs = search needs
 
--- src/lib.rt:79:9
 put-sheet-line-requires : tie.Need-put-sheet-line-requires
 put-sheet-line-requires c κs = search needs
 
--- src/lib.rt:79:9
 returns : tie.Need-returns
 returns c =
     let k : length (sheetLine (c .before .sheet-number .result)) ≤ 27 = sheet-line-length (c .before .sheet-number .result) in
@@ -47,13 +37,11 @@ returns c =
 sheet-records-requires : tie.Need-sheet-records-requires
 sheet-records-requires c κs = search needs
 
--- src/lib.rt:83:5
 put-lines-requires : tie.Need-put-lines-requires
 put-lines-requires c κs =
     let l : length (c .before .before .before .before .before .before .args .out .now) ≡ 262144 = search needs in
     (omega arith, rw (c .before .sheet-records .ensures, l) (taken-room (c .before .before .before .before .before .before .args .sheet .now) (sym (c .before .before .before .before .sheet-answer .ensures) ∙ c .before .before .enum-told .given .1)))
 
--- src/lib.rt:74:1
 returns-2 : tie.Need-returns-2
 returns-2 c =
     let l : length (c .before .before .before .before .before .before .before .args .out .now) ≡ 262144 = search needs in

@@ -1,3 +1,4 @@
+-- `listing::put_lines` meets its contract. The loop carries what the definition gives up to the index, and each turn adds one more. Assumes nothing.
 use Prim.Native.Nat.{_+_, _*_, _-_, _≤_, zero-le}
 use native.Mathlib.Omega.{arith}
 use native.Mathlib.Numerals.{add-one}
@@ -11,12 +12,6 @@ use Rattle.listing.proofs.Printed.{printed-in-range, printed-tables, pr
 use Rattle.listing.proofs.put_lines.Statement.{statement}
 use Rattle.rules.specs.Listing.{printedUpTo}
 use Rattle.listing.proofs.put_lines.Tie as tie
-use Rattle.listing.proofs.put_lines.Reads as reads
-use Rattle.listing.proofs.put_lines.Lts as lts
-use Rattle.lines.proofs.put_line.Reads as put-line-reads
-use Rattle.listing.proofs.record_at.Reads as record-at-reads
-use Rattle.machine.proofs.whole.record_in_range.Reads as record-in-range-reads
-use Rattle.tables.proofs.start.start.Reads as start-reads
 
 abbrev Inv-loop : tie.InvT-loop
 Inv-loop part n out₀ t₀ at₀ i₀ out t at i =
@@ -29,40 +24,31 @@ Inv-loop part n out₀ t₀ at₀ i₀ out t at i =
 abbrev μ-loop : tie.MeasureT-loop
 μ-loop part n out₀ t₀ at₀ i₀ out t at i = n - i
 
--- src/lib.rt:56:9
 start-requires : tie.Need-start-requires Inv-loop μ-loop
 start-requires c κs = search needs
 
--- src/lib.rt:59:5
 loop-holds : tie.Need-loop-holds Inv-loop μ-loop
 unfolding printedUpTo
 loop-holds c = (c .start .ensures, put-none _ 0, search needs, search needs, refl)
 
--- src/lib.rt:60:13
 record-at-requires : tie.Need-record-at-requires Inv-loop μ-loop
 record-at-requires c κs = omega arith
 
--- src/lib.rt:61:13
 record-in-range-requires : tie.Need-record-in-range-requires Inv-loop μ-loop
 record-in-range-requires c κs = rw (c .before .before .loop .inv .0) (printed-in-range (c .before .before .before .before .before .before .args .part .now) (c .before .before .loop .i))
 
--- src/lib.rt:64:33
 add-put-line : tie.Need-add-put-line Inv-loop μ-loop
 add-put-line c = omega arith
 
--- src/lib.rt:64:9
 put-line-requires : tie.Need-put-line-requires Inv-loop μ-loop
 put-line-requires c κs = omega arith
 
--- src/lib.rt:66:9
 add-i : tie.Need-add-i Inv-loop μ-loop
 add-i c = omega arith
 
--- src/lib.rt:59:5
 loop-less : tie.Need-loop-less Inv-loop μ-loop
 loop-less c = omega arith
 
--- src/lib.rt:59:5
 loop-again : tie.Need-loop-again Inv-loop μ-loop
 loop-again c =
     let k : length (lineOf (c .before .before .before .before .before .before .before .before .loop .i + 1) (c .before .before .before .before .before .record-in-range .result .answer)) ≤ 63 =
@@ -80,11 +66,9 @@ loop-again c =
       c .before .before .put-line .kept .0 ∙ c .before .before .before .before .before .before .before .before .loop .inv .4,
     )
 
--- src/lib.rt:52:1
 same-length : tie.Need-same-length Inv-loop μ-loop
 same-length c = c .before .loop .inv .4
 
--- src/lib.rt:52:1
 returns : tie.Need-returns Inv-loop μ-loop
 returns c =
     let e : c .before .loop .i ≡ c .before .before .before .before .before .args .n = omega arith in

@@ -1,140 +1,106 @@
+-- `listing::record_at` meets its contract. The definition computes to what the code makes. Assumes nothing.
 use Prim.Native.Nat.{_*_}
 use Rattle.listing.proofs.Sixteen.{sixteen-bytes}
 use borrow.Author.Needs.{needs}
 use Rattle.listing.proofs.record_at.Statement.{statement}
 use Rattle.listing.proofs.record_at.Tie as tie
-use Rattle.listing.proofs.record_at.Reads as reads
-use Rattle.listing.proofs.record_at.Lts as lts
 
--- src/lib.rt:18:13
 mul-a : tie.Need-mul-a
 mul-a c = search needs
 
--- src/lib.rt:20:9
 shared-slice-read-t5 : tie.Need-shared-slice-read-t5
 shared-slice-read-t5 c = search needs
 
--- src/lib.rt:21:14
 add-t6 : tie.Need-add-t6
 add-t6 c = search needs
 
--- src/lib.rt:21:9
 shared-slice-read-t8 : tie.Need-shared-slice-read-t8
 shared-slice-read-t8 c = search needs
 
--- src/lib.rt:22:14
 add-t9 : tie.Need-add-t9
 add-t9 c = search needs
 
--- src/lib.rt:22:9
 shared-slice-read-t11 : tie.Need-shared-slice-read-t11
 shared-slice-read-t11 c = search needs
 
--- src/lib.rt:23:14
 add-t12 : tie.Need-add-t12
 add-t12 c = search needs
 
--- src/lib.rt:23:9
 shared-slice-read-t14 : tie.Need-shared-slice-read-t14
 shared-slice-read-t14 c = search needs
 
--- src/lib.rt:24:14
 add-t15 : tie.Need-add-t15
 add-t15 c = search needs
 
--- src/lib.rt:24:9
 shared-slice-read-t17 : tie.Need-shared-slice-read-t17
 shared-slice-read-t17 c = search needs
 
--- src/lib.rt:25:14
 add-t18 : tie.Need-add-t18
 add-t18 c = search needs
 
--- src/lib.rt:25:9
 shared-slice-read-t20 : tie.Need-shared-slice-read-t20
 shared-slice-read-t20 c = search needs
 
--- src/lib.rt:26:14
 add-t21 : tie.Need-add-t21
 add-t21 c = search needs
 
--- src/lib.rt:26:9
 shared-slice-read-t23 : tie.Need-shared-slice-read-t23
 shared-slice-read-t23 c = search needs
 
--- src/lib.rt:27:14
 add-t24 : tie.Need-add-t24
 add-t24 c = search needs
 
--- src/lib.rt:27:9
 shared-slice-read-t26 : tie.Need-shared-slice-read-t26
 shared-slice-read-t26 c = search needs
 
--- src/lib.rt:28:14
 add-t27 : tie.Need-add-t27
 add-t27 c = search needs
 
--- src/lib.rt:28:9
 shared-slice-read-t29 : tie.Need-shared-slice-read-t29
 shared-slice-read-t29 c = search needs
 
--- src/lib.rt:29:14
 add-t30 : tie.Need-add-t30
 add-t30 c = search needs
 
--- src/lib.rt:29:9
 shared-slice-read-t32 : tie.Need-shared-slice-read-t32
 shared-slice-read-t32 c = search needs
 
--- src/lib.rt:30:14
 add-t33 : tie.Need-add-t33
 add-t33 c = search needs
 
--- src/lib.rt:30:9
 shared-slice-read-t35 : tie.Need-shared-slice-read-t35
 shared-slice-read-t35 c = search needs
 
--- src/lib.rt:31:14
 add-t36 : tie.Need-add-t36
 add-t36 c = search needs
 
--- src/lib.rt:31:9
 shared-slice-read-t38 : tie.Need-shared-slice-read-t38
 shared-slice-read-t38 c = search needs
 
--- src/lib.rt:32:14
 add-t39 : tie.Need-add-t39
 add-t39 c = search needs
 
--- src/lib.rt:32:9
 shared-slice-read-t41 : tie.Need-shared-slice-read-t41
 shared-slice-read-t41 c = search needs
 
--- src/lib.rt:33:14
 add-t42 : tie.Need-add-t42
 add-t42 c = search needs
 
--- src/lib.rt:33:9
 shared-slice-read-t44 : tie.Need-shared-slice-read-t44
 shared-slice-read-t44 c = search needs
 
--- src/lib.rt:34:14
 add-t45 : tie.Need-add-t45
 add-t45 c = search needs
 
--- src/lib.rt:34:9
 shared-slice-read-t47 : tie.Need-shared-slice-read-t47
 shared-slice-read-t47 c = search needs
 
--- src/lib.rt:35:14
 add-t48 : tie.Need-add-t48
 add-t48 c = search needs
 
--- src/lib.rt:35:9
 shared-slice-read-t50 : tie.Need-shared-slice-read-t50
 shared-slice-read-t50 c = search needs
 
--- src/lib.rt:14:1
 returns : tie.Need-returns
 returns c = sixteen-bytes (c .before .before .before .before .before .before .before .before .before .before .before .before .before .before .before .before .args .part .now) (16 * c .before .before .before .before .before .before .before .before .before .before .before .before .before .before .before .before .args .i) (c .before .before .before .before .before .before .before .before .before .before .before .before .before .before .before .before .pre)
 

@@ -1,33 +1,24 @@
+-- `machine::step` meets its contract. What its callees ensure, put together, is the definition. Assumes nothing.
 use mathlib.Core.Path.{sym, _∙_}
 use borrow.Author.Needs.{needs}
 use Rattle.rules.specs.Answers.{firstOf}
 use Rattle.rules.specs.Machine.{stepOf}
 use Rattle.machine.proofs.step.Statement.{statement}
 use Rattle.machine.proofs.step.Tie as tie
-use Rattle.machine.proofs.step.Reads as reads
-use Rattle.machine.proofs.step.Lts as lts
-use Rattle.machine.proofs.out_of_range.Reads as out-of-range-reads
-use Rattle.machine.proofs.whole.step_in_range.Reads as step-in-range-reads
-use Rattle.tables.proofs.ranges.in_range.Reads as in-range-reads
 
--- src/lib.rt:32:8
 in-range-requires : tie.Need-in-range-requires
 in-range-requires c κs = search needs
 
--- src/lib.rt:33:9
 step-in-range-requires : tie.Need-step-in-range-requires
 step-in-range-requires c κs = sym (c .before .in-range .ensures) ∙ c .if1 .taken
 
--- src/lib.rt:35:9
 out-of-range-requires : tie.Need-out-of-range-requires
 out-of-range-requires c κs = search needs
 
--- src/lib.rt:29:1
 returns : tie.Need-returns
 unfolding stepOf firstOf
 returns c = rw (c .step-in-range .ensures, ← c .before .before .in-range .ensures, c .before .if1 .taken)
 
--- src/lib.rt:29:1
 returns-2 : tie.Need-returns-2
 unfolding stepOf firstOf
 returns-2 c = rw (c .out-of-range .ensures, ← c .before .before .in-range .ensures, c .before .if1 .left)

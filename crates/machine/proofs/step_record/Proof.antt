@@ -1,33 +1,24 @@
+-- `machine::step_record` meets its contract. What its callees ensure, put together, is the definition. Assumes nothing.
 use mathlib.Core.Path.{sym, _∙_}
 use borrow.Author.Needs.{needs}
 use Rattle.rules.specs.Answers.{firstOf}
 use Rattle.rules.specs.Record.{stepRecordOf}
 use Rattle.machine.proofs.step_record.Statement.{statement}
 use Rattle.machine.proofs.step_record.Tie as tie
-use Rattle.machine.proofs.step_record.Reads as reads
-use Rattle.machine.proofs.step_record.Lts as lts
-use Rattle.machine.proofs.out_of_range.Reads as out-of-range-reads
-use Rattle.machine.proofs.whole.record_in_range.Reads as record-in-range-reads
-use Rattle.tables.proofs.ranges.in_range.Reads as in-range-reads
 
--- src/lib.rt:43:8
 in-range-requires : tie.Need-in-range-requires
 in-range-requires c κs = search needs
 
--- src/lib.rt:44:9
 record-in-range-requires : tie.Need-record-in-range-requires
 record-in-range-requires c κs = sym (c .before .in-range .ensures) ∙ c .if1 .taken
 
--- src/lib.rt:46:9
 out-of-range-requires : tie.Need-out-of-range-requires
 out-of-range-requires c κs = search needs
 
--- src/lib.rt:40:1
 returns : tie.Need-returns
 unfolding stepRecordOf firstOf
 returns c = rw (c .record-in-range .ensures, ← c .before .before .in-range .ensures, c .before .if1 .taken)
 
--- src/lib.rt:40:1
 returns-2 : tie.Need-returns-2
 unfolding stepRecordOf firstOf
 returns-2 c = rw (c .out-of-range .ensures, ← c .before .before .in-range .ensures, c .before .if1 .left)

@@ -1,56 +1,40 @@
+-- `passrun::main` meets its contract. What its callees ensure, put together, is the definition. Assumes nothing.
 use mathlib.Core.Path.{sym}
 use lib.Seq.{length-take-le}
 use borrow.Author.Needs.{needs}
 use Rattle.passrun.proofs.main.Statement.{statement}
 use Rattle.passrun.proofs.main.Tie as tie
-use Rattle.passrun.proofs.main.Reads as reads
-use Rattle.passrun.proofs.main.Lts as lts
-use Rattle.io.proofs.read_full.Reads as read-full-reads
-use Rattle.io.proofs.write_all.Reads as write-all-reads
-use Rattle.listing.proofs.list.Reads as list-reads
-use Rattle.passrun.proofs.at_end.Reads as at-end-reads
 
--- src/main.rt:16:41
 slice-aggregate-read-full : tie.Need-slice-aggregate-read-full
 slice-aggregate-read-full c = search needs
 
--- src/main.rt:16:9
 read-full-requires : tie.Need-read-full-requires
 read-full-requires c κs = search needs
 
--- src/main.rt:18:13
 at-end-requires : tie.Need-at-end-requires
 at-end-requires c κs = search needs
 
--- src/main.rt:19:13
 returns : tie.Need-returns
 returns c = search needs
 
--- src/main.rt:22:18
 array-share-prefix-sheet : tie.Need-array-share-prefix-sheet
 array-share-prefix-sheet c = search needs
 
--- src/main.rt:22:18
 slice-aggregate-list : tie.Need-slice-aggregate-list
 slice-aggregate-list c = search needs
 
--- src/main.rt:22:9
 list-requires : tie.Need-list-requires
 list-requires c κs = search needs
 
--- src/main.rt:23:34
 array-share-prefix-out : tie.Need-array-share-prefix-out
 array-share-prefix-out c = c .list .ensures .1
 
--- src/main.rt:23:34
 slice-aggregate-write-all : tie.Need-slice-aggregate-write-all
 slice-aggregate-write-all c = sym (length-take-le (c .before .list .result) (c .before .list .last .1 .0) (c .before .list .ensures .1))
 
--- src/main.rt:23:5
 write-all-requires : tie.Need-write-all-requires
 write-all-requires c κs = search needs
 
--- src/main.rt:12:1
 returns-2 : tie.Need-returns-2
 returns-2 c = search needs
 

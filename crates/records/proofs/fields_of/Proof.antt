@@ -1,92 +1,68 @@
+-- `records::fields_of` meets its contract. What its callees ensure, put together, is the definition. Assumes nothing.
 use borrow.Author.Needs.{needs}
 use Rattle.records.proofs.fields_of.Statement.{statement}
 use Rattle.records.proofs.fields_of.Tie as tie
-use Rattle.records.proofs.fields_of.Reads as reads
-use Rattle.records.proofs.fields_of.Lts as lts
-use Rattle.records.proofs.long.Reads as long-reads
-use Rattle.records.proofs.word.Reads as word-reads
 
--- src/lib.rt:108:15
 array-read-t5 : tie.Need-array-read-t5
 array-read-t5 c = search needs
 
--- src/lib.rt:109:12
 array-read-t8 : tie.Need-array-read-t8
 array-read-t8 c = search needs
 
--- src/lib.rt:110:12
 array-read-t11 : tie.Need-array-read-t11
 array-read-t11 c = search needs
 
--- src/lib.rt:111:12
 array-read-t14 : tie.Need-array-read-t14
 array-read-t14 c = search needs
 
--- src/lib.rt:112:17
 array-read-word : tie.Need-array-read-word
 array-read-word c = search needs
 
--- src/lib.rt:112:23
 array-read-word-2 : tie.Need-array-read-word-2
 array-read-word-2 c = search needs
 
--- src/lib.rt:112:12
 word-requires : tie.Need-word-requires
 word-requires c κs = search needs
 
--- src/lib.rt:113:20
 array-read-word-3 : tie.Need-array-read-word-3
 array-read-word-3 c = search needs
 
--- src/lib.rt:113:26
 array-read-word-4 : tie.Need-array-read-word-4
 array-read-word-4 c = search needs
 
--- src/lib.rt:113:15
 word-requires-2 : tie.Need-word-requires-2
 word-requires-2 c κs = search needs
 
--- src/lib.rt:114:17
 array-read-long : tie.Need-array-read-long
 array-read-long c = search needs
 
--- src/lib.rt:114:23
 array-read-long-2 : tie.Need-array-read-long-2
 array-read-long-2 c = search needs
 
--- src/lib.rt:114:29
 array-read-long-3 : tie.Need-array-read-long-3
 array-read-long-3 c = search needs
 
--- src/lib.rt:114:36
 array-read-long-4 : tie.Need-array-read-long-4
 array-read-long-4 c = search needs
 
--- src/lib.rt:114:12
 long-requires : tie.Need-long-requires
 long-requires c κs = search needs
 
--- src/lib.rt:115:17
 array-read-long-5 : tie.Need-array-read-long-5
 array-read-long-5 c = search needs
 
--- src/lib.rt:115:24
 array-read-long-6 : tie.Need-array-read-long-6
 array-read-long-6 c = search needs
 
--- src/lib.rt:115:31
 array-read-long-7 : tie.Need-array-read-long-7
 array-read-long-7 c = search needs
 
--- src/lib.rt:115:38
 array-read-long-8 : tie.Need-array-read-long-8
 array-read-long-8 c = search needs
 
--- src/lib.rt:115:12
 long-requires-2 : tie.Need-long-requires-2
 long-requires-2 c κs = search needs
 
--- src/lib.rt:104:1
 returns : tie.Need-returns
 returns c = rw (c .long2 .ensures, c .before .long .ensures, c .before .before .word2 .ensures, c .before .before .before .word .ensures)
 

@@ -1,72 +1,53 @@
+-- `records::kept_fields` meets its contract. What its callees ensure, put together, is the definition. Assumes nothing.
 use borrow.Author.Needs.{needs}
 use Rattle.records.proofs.kept_fields.Statement.{statement}
 use Rattle.records.proofs.kept_fields.Tie as tie
-use Rattle.records.proofs.kept_fields.Reads as reads
-use Rattle.records.proofs.kept_fields.Lts as lts
-use Rattle.records.proofs.kept.Reads as kept-reads
-use Rattle.records.proofs.row_of.Reads as row-of-reads
 
--- src/lib.rt:71:9
 row-of-requires : tie.Need-row-of-requires
 row-of-requires c κs = search needs
 
--- src/lib.rt:74:25
 cast-kept : tie.Need-cast-kept
 cast-kept c = search needs
 
--- src/lib.rt:74:12
 kept-requires : tie.Need-kept-requires
 kept-requires c κs = search needs
 
--- src/lib.rt:74:12
 cast-t5 : tie.Need-cast-t5
 cast-t5 c = search needs
 
--- src/lib.rt:75:25
 cast-kept-2 : tie.Need-cast-kept-2
 cast-kept-2 c = search needs
 
--- src/lib.rt:75:12
 kept-requires-2 : tie.Need-kept-requires-2
 kept-requires-2 c κs = search needs
 
--- src/lib.rt:75:12
 cast-t8 : tie.Need-cast-t8
 cast-t8 c = search needs
 
--- src/lib.rt:76:25
 cast-kept-3 : tie.Need-cast-kept-3
 cast-kept-3 c = search needs
 
--- src/lib.rt:76:12
 kept-requires-3 : tie.Need-kept-requires-3
 kept-requires-3 c κs = search needs
 
--- src/lib.rt:76:12
 cast-t11 : tie.Need-cast-t11
 cast-t11 c = search needs
 
--- src/lib.rt:77:25
 cast-kept-4 : tie.Need-cast-kept-4
 cast-kept-4 c = search needs
 
--- src/lib.rt:77:12
 kept-requires-4 : tie.Need-kept-requires-4
 kept-requires-4 c κs = search needs
 
--- src/lib.rt:77:12
 cast-t14 : tie.Need-cast-t14
 cast-t14 c = search needs
 
--- src/lib.rt:79:12
 kept-requires-5 : tie.Need-kept-requires-5
 kept-requires-5 c κs = search needs
 
--- src/lib.rt:80:12
 kept-requires-6 : tie.Need-kept-requires-6
 kept-requires-6 c κs = search needs
 
--- src/lib.rt:67:1
 returns : tie.Need-returns
 returns c = rw (c .kept6 .ensures .0, c .before .kept5 .ensures .0, c .before .before .kept4 .ensures .0, c .before .before .before .before .kept3 .ensures .0, c .before .before .before .before .before .before .kept2 .ensures .0, c .before .before .before .before .before .before .before .before .kept .ensures .0, c .before .before .before .before .before .before .before .before .before .before .row-of .ensures)
 

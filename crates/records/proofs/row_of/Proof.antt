@@ -4,18 +4,13 @@ use borrow.Author.Needs.{needs}
 use mathlib.Core.Path.{refl}
 use Rattle.records.proofs.row_of.Statement.{statement}
 use Rattle.records.proofs.row_of.Tie as tie
-use Rattle.records.proofs.row_of.Reads as reads
-use Rattle.records.proofs.row_of.Lts as lts
 
--- src/lib.rt:26:11
 sub-result : tie.Need-sub-result
 sub-result c = search needs
 
--- src/lib.rt:26:5
 array-read-result : tie.Need-array-read-result
 array-read-result c = search needs
 
--- src/lib.rt:22:1
 returns : tie.Need-returns
 returns c = refl
 

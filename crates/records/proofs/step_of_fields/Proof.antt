@@ -5,37 +5,26 @@ use Rattle.rules.specs.Record.{stepOfFields}
 use Rattle.rules.specs.RecordLaws.{code-known}
 use Rattle.records.proofs.step_of_fields.Statement.{statement}
 use Rattle.records.proofs.step_of_fields.Tie as tie
-use Rattle.records.proofs.step_of_fields.Reads as reads
-use Rattle.records.proofs.step_of_fields.Lts as lts
-use Rattle.records.proofs.fields_fit.Reads as fields-fit-reads
-use Rattle.records.proofs.is_code.Reads as is-code-reads
-use Rattle.records.proofs.step_of_code.Reads as step-of-code-reads
 
--- src/lib.rt:261:8
 is-code-requires : tie.Need-is-code-requires
 is-code-requires c κs = search needs
 
--- src/lib.rt:262:12
 fields-fit-requires : tie.Need-fields-fit-requires
 fields-fit-requires c κs =
     code-known (c .before .before .args .f .code) (rw (c .before .is-code .ensures) at (c .if1 .taken))
 
--- src/lib.rt:263:35
 step-of-code-requires : tie.Need-step-of-code-requires
 step-of-code-requires c κs =
     code-known (c .before .before .before .before .args .f .code) (rw (c .before .before .before .is-code .ensures) at (c .before .before .if1 .taken))
 
--- src/lib.rt:263:13
 returns : tie.Need-returns
 unfolding stepOfFields
 returns c = rw (c .step-of-code .ensures, ← c .before .before .fields-fit .ensures, c .before .if2 .taken, ← c .before .before .before .before .is-code .ensures, c .before .before .before .if1 .taken)
 
--- src/lib.rt:258:1
 returns-2 : tie.Need-returns-2
 unfolding stepOfFields
 returns-2 c = rw (← c .before .fields-fit .ensures, c .if2 .left, ← c .before .before .before .is-code .ensures, c .before .before .if1 .taken)
 
--- src/lib.rt:258:1
 returns-3 : tie.Need-returns-3
 unfolding stepOfFields
 returns-3 c = rw (← c .before .is-code .ensures, c .if1 .left)

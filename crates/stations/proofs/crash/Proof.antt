@@ -1,68 +1,46 @@
+-- `stations::crash` meets its contract. What its callees ensure, put together, is the definition. Assumes nothing.
 use borrow.Author.Needs.{needs}
 use Rattle.rules.specs.Answers.{firstOf}
 use Rattle.rules.specs.Stations.{crashOf}
 use Rattle.stations.proofs.crash.Statement.{statement}
 use Rattle.stations.proofs.crash.Tie as tie
-use Rattle.stations.proofs.crash.Reads as reads
-use Rattle.stations.proofs.crash.Lts as lts
-use Rattle.checks.proofs.bad_site.Reads as bad-site-reads
-use Rattle.checks.proofs.clock_full.Reads as clock-full-reads
-use Rattle.checks.proofs.first_of.Reads as first-of-reads
-use Rattle.checks.proofs.never.Reads as never-reads
-use Rattle.checks.proofs.refuse.Reads as refuse-reads
-use Rattle.checks.proofs.settle.Reads as settle-reads
-use Rattle.checks.proofs.site_down.Reads as site-down-reads
-use Rattle.stations.proofs.left_site.Reads as left-site-reads
 
--- src/lib.rt:123:17
 add-clock : tie.Need-add-clock
 add-clock c = search needs
 
--- src/lib.rt:125:35
 bad-site-requires : tie.Need-bad-site-requires
 bad-site-requires c κs = search needs
 
--- src/lib.rt:125:9
 refuse-requires : tie.Need-refuse-requires
 refuse-requires c κs = search needs
 
--- src/lib.rt:126:9
 site-down-requires : tie.Need-site-down-requires
 site-down-requires c κs = search needs
 
--- src/lib.rt:127:9
 clock-full-requires : tie.Need-clock-full-requires
 clock-full-requires c κs = search needs
 
--- src/lib.rt:128:9
 never-requires : tie.Need-never-requires
 never-requires c κs = search needs
 
--- src/lib.rt:129:9
 never-requires-2 : tie.Need-never-requires-2
 never-requires-2 c κs = search needs
 
--- src/lib.rt:130:9
 never-requires-3 : tie.Need-never-requires-3
 never-requires-3 c κs = search needs
 
--- src/lib.rt:131:9
 never-requires-4 : tie.Need-never-requires-4
 never-requires-4 c κs = search needs
 
--- src/lib.rt:133:9
 first-of-requires : tie.Need-first-of-requires
 first-of-requires c κs = search needs
 
--- src/lib.rt:135:9
 left-site-requires : tie.Need-left-site-requires
 left-site-requires c κs = search needs
 
--- src/lib.rt:136:5
 settle-requires : tie.Need-settle-requires
 settle-requires c κs = search needs
 
--- src/lib.rt:118:1
 returns : tie.Need-returns
 unfolding crashOf firstOf
 returns c = rw (c .settle .ensures, c .before .left-site .ensures, c .before .before .first-of .ensures, c .before .before .before .never4 .ensures, c .before .before .before .before .never3 .ensures, c .before .before .before .before .before .never2 .ensures, c .before .before .before .before .before .before .never .ensures, c .before .before .before .before .before .before .before .clock-full .ensures, c .before .before .before .before .before .before .before .before .site-down .ensures, c .before .before .before .before .before .before .before .before .before .refuse .ensures, c .before .before .before .before .before .before .before .before .before .before .bad-site .ensures)

@@ -1,19 +1,14 @@
+-- `stations::crashed_passage` meets its contract. What its callees ensure, put together, is the definition. Assumes nothing.
 use borrow.Author.Needs.{needs}
 use Rattle.stations.proofs.crashed_passage.Statement.{statement}
 use Rattle.stations.proofs.crashed_passage.Tie as tie
-use Rattle.stations.proofs.crashed_passage.Reads as reads
-use Rattle.stations.proofs.crashed_passage.Lts as lts
-use Rattle.parts.proofs.passages.aborted_passage.Reads as aborted-passage-reads
 
--- src/lib.rt:161:9
 aborted-passage-requires : tie.Need-aborted-passage-requires
 aborted-passage-requires c κs = search needs
 
--- src/lib.rt:157:1
 returns : tie.Need-returns
 returns c = rw (c .aborted-passage .ensures, c .before .if1 .taken)
 
--- src/lib.rt:157:1
 returns-2 : tie.Need-returns-2
 returns-2 c = search needs
 

@@ -1,36 +1,25 @@
+-- `stations::swept_slot` meets its contract. What its callees ensure, put together, is the definition. Assumes nothing.
 use borrow.Author.Needs.{needs}
 use Rattle.rules.specs.Stations.{sweptSlot}
 use Rattle.stations.proofs.swept_slot.Statement.{statement}
 use Rattle.stations.proofs.swept_slot.Tie as tie
-use Rattle.stations.proofs.swept_slot.Reads as reads
-use Rattle.stations.proofs.swept_slot.Lts as lts
-use Rattle.parts.proofs.objects.restored_all.Reads as restored-all-reads
-use Rattle.parts.proofs.visits.no_visit.Reads as no-visit-reads
-use Rattle.stations.proofs.is_swept.Reads as is-swept-reads
-use Rattle.stations.proofs.swept_passage.Reads as swept-passage-reads
 
--- src/lib.rt:97:8
 is-swept-requires : tie.Need-is-swept-requires
 is-swept-requires c κs = search needs
 
--- src/lib.rt:100:13
 swept-passage-requires : tie.Need-swept-passage-requires
 swept-passage-requires c κs = search needs
 
--- src/lib.rt:101:13
 no-visit-requires : tie.Need-no-visit-requires
 no-visit-requires c κs = search needs
 
--- src/lib.rt:104:13
 restored-all-requires : tie.Need-restored-all-requires
 restored-all-requires c κs = search needs
 
--- src/lib.rt:94:1
 returns : tie.Need-returns
 unfolding sweptSlot
 returns c = rw (c .restored-all .ensures, c .before .before .before .no-visit .ensures, c .before .before .before .before .swept-passage .ensures, ← c .before .before .before .before .before .before .before .before .is-swept .ensures, c .before .before .before .before .before .before .before .if1 .taken)
 
--- src/lib.rt:94:1
 returns-2 : tie.Need-returns-2
 unfolding sweptSlot
 returns-2 c = rw (← c .before .is-swept .ensures, c .if1 .left)

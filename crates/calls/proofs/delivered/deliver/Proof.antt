@@ -1,76 +1,55 @@
+-- `calls::delivered::deliver` meets its contract. In each arm the case is known, and the callees give the rest. Assumes nothing.
 use borrow.Author.Needs.{needs}
 use Rattle.rules.specs.Calls.{deliverBodyOf}
 use Rattle.calls.proofs.delivered.deliver.Statement.{statement}
 use Rattle.calls.proofs.delivered.deliver.Tie as tie
-use Rattle.calls.proofs.delivered.deliver.Reads as reads
-use Rattle.calls.proofs.delivered.deliver.Lts as lts
-use Rattle.calls.proofs.delivered.deliver_answer.Reads as deliver-answer-reads
-use Rattle.calls.proofs.delivered.deliver_call.Reads as deliver-call-reads
-use Rattle.calls.proofs.delivered.deliver_empty.Reads as deliver-empty-reads
-use Rattle.calls.proofs.delivered.deliver_phase_one.Reads as deliver-phase-one-reads
-use Rattle.calls.proofs.delivered.deliver_phase_two.Reads as deliver-phase-two-reads
 
--- src/delivered.rt:374:24
 enum-told : tie.Need-enum-told
 enum-told c = search needs
 
--- src/delivered.rt:374:24
 deliver-empty-requires : tie.Need-deliver-empty-requires
 deliver-empty-requires c κs = search needs
 
--- src/delivered.rt:375:20
 enum-known-body : tie.Need-enum-known-body
 enum-known-body c = search needs
 
--- src/delivered.rt:375:29
 deliver-call-requires : tie.Need-deliver-call-requires
 deliver-call-requires c κs = search needs
 
--- src/delivered.rt:376:26
 enum-known-body-2 : tie.Need-enum-known-body-2
 enum-known-body-2 c = search needs
 
--- src/delivered.rt:376:45
 deliver-phase-one-requires : tie.Need-deliver-phase-one-requires
 deliver-phase-one-requires c κs = search needs
 
--- src/delivered.rt:377:26
 enum-known-body-3 : tie.Need-enum-known-body-3
 enum-known-body-3 c = search needs
 
--- src/delivered.rt:377:44
 deliver-phase-two-requires : tie.Need-deliver-phase-two-requires
 deliver-phase-two-requires c κs = search needs
 
--- src/delivered.rt:379:13
 enum-known-body-4 : tie.Need-enum-known-body-4
 enum-known-body-4 c = search needs
 
--- src/delivered.rt:382:14
 deliver-answer-requires : tie.Need-deliver-answer-requires
 deliver-answer-requires c κs = search needs
 
--- src/delivered.rt:367:1
 returns : tie.Need-returns
 unfolding deliverBodyOf
 returns c = rw (c .deliver-empty .ensures, c .before .enum-told .given .1)
 
--- src/delivered.rt:367:1
 returns-2 : tie.Need-returns-2
 unfolding deliverBodyOf
 returns-2 c = rw (c .deliver-call .ensures, c .before .before .body .given .1)
 
--- src/delivered.rt:367:1
 returns-3 : tie.Need-returns-3
 unfolding deliverBodyOf
 returns-3 c = rw (c .deliver-phase-one .ensures, c .before .before .body2 .given .1)
 
--- src/delivered.rt:367:1
 returns-4 : tie.Need-returns-4
 unfolding deliverBodyOf
 returns-4 c = rw (c .deliver-phase-two .ensures, c .before .before .body3 .given .1)
 
--- src/delivered.rt:367:1
 returns-5 : tie.Need-returns-5
 unfolding deliverBodyOf
 returns-5 c = rw (c .deliver-answer .ensures, c .before .before .body4 .given .1)

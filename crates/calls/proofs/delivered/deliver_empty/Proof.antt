@@ -1,58 +1,40 @@
+-- `calls::delivered::deliver_empty` meets its contract. What its callees ensure, put together, is the definition. Assumes nothing.
 use borrow.Author.Needs.{needs}
 use Rattle.rules.specs.Answers.{firstOf}
 use Rattle.rules.specs.Calls.{emptyOf}
 use Rattle.calls.proofs.delivered.deliver_empty.Statement.{statement}
 use Rattle.calls.proofs.delivered.deliver_empty.Tie as tie
-use Rattle.calls.proofs.delivered.deliver_empty.Reads as reads
-use Rattle.calls.proofs.delivered.deliver_empty.Lts as lts
-use Rattle.checks.proofs.bad_message.Reads as bad-message-reads
-use Rattle.checks.proofs.first_of.Reads as first-of-reads
-use Rattle.checks.proofs.never.Reads as never-reads
-use Rattle.checks.proofs.no_mail.Reads as no-mail-reads
-use Rattle.checks.proofs.refuse.Reads as refuse-reads
-use Rattle.checks.proofs.settle.Reads as settle-reads
 
--- src/delivered.rt:87:35
 bad-message-requires : tie.Need-bad-message-requires
 bad-message-requires c κs = search needs
 
--- src/delivered.rt:87:9
 refuse-requires : tie.Need-refuse-requires
 refuse-requires c κs = search needs
 
--- src/delivered.rt:88:9
 no-mail-requires : tie.Need-no-mail-requires
 no-mail-requires c κs = search needs
 
--- src/delivered.rt:89:9
 never-requires : tie.Need-never-requires
 never-requires c κs = search needs
 
--- src/delivered.rt:90:9
 never-requires-2 : tie.Need-never-requires-2
 never-requires-2 c κs = search needs
 
--- src/delivered.rt:91:9
 never-requires-3 : tie.Need-never-requires-3
 never-requires-3 c κs = search needs
 
--- src/delivered.rt:92:9
 never-requires-4 : tie.Need-never-requires-4
 never-requires-4 c κs = search needs
 
--- src/delivered.rt:93:9
 never-requires-5 : tie.Need-never-requires-5
 never-requires-5 c κs = search needs
 
--- src/delivered.rt:95:9
 first-of-requires : tie.Need-first-of-requires
 first-of-requires c κs = search needs
 
--- src/delivered.rt:96:5
 settle-requires : tie.Need-settle-requires
 settle-requires c κs = search needs
 
--- src/delivered.rt:83:1
 returns : tie.Need-returns
 unfolding emptyOf firstOf
 returns c = rw (c .settle .ensures, c .before .first-of .ensures, c .before .before .never5 .ensures, c .before .before .before .never4 .ensures, c .before .before .before .before .never3 .ensures, c .before .before .before .before .before .never2 .ensures, c .before .before .before .before .before .before .never .ensures, c .before .before .before .before .before .before .before .no-mail .ensures, c .before .before .before .before .before .before .before .before .refuse .ensures, c .before .before .before .before .before .before .before .before .before .bad-message .ensures)

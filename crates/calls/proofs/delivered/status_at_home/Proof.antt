@@ -1,24 +1,17 @@
+-- `calls::delivered::status_at_home` meets its contract. What its callees ensure, put together, is the definition. Assumes nothing.
 use borrow.Author.Needs.{needs}
 use Rattle.calls.proofs.delivered.status_at_home.Statement.{statement}
 use Rattle.calls.proofs.delivered.status_at_home.Tie as tie
-use Rattle.calls.proofs.delivered.status_at_home.Reads as reads
-use Rattle.calls.proofs.delivered.status_at_home.Lts as lts
-use Rattle.calls.proofs.delivered.at_home.Reads as at-home-reads
-use Rattle.parts.proofs.passages.with_status.Reads as with-status-reads
 
--- src/delivered.rt:201:8
 at-home-requires : tie.Need-at-home-requires
 at-home-requires c κs = search needs
 
--- src/delivered.rt:202:9
 with-status-requires : tie.Need-with-status-requires
 with-status-requires c κs = search needs
 
--- src/delivered.rt:197:1
 returns : tie.Need-returns
 returns c = rw (c .with-status .ensures, ← c .before .before .at-home .ensures, c .before .if1 .taken)
 
--- src/delivered.rt:197:1
 returns-2 : tie.Need-returns-2
 returns-2 c = rw (← c .before .at-home .ensures, c .if1 .left)
 

@@ -1,63 +1,43 @@
+-- `calls::invoked::drop` meets its contract. What its callees ensure, put together, is the definition. Assumes nothing.
 use borrow.Author.Needs.{needs}
 use Rattle.rules.specs.Answers.{firstOf}
 use Rattle.rules.specs.Calls.{dropOf}
 use Rattle.calls.proofs.invoked.drop.Statement.{statement}
 use Rattle.calls.proofs.invoked.drop.Tie as tie
-use Rattle.calls.proofs.invoked.drop.Reads as reads
-use Rattle.calls.proofs.invoked.drop.Lts as lts
-use Rattle.calls.proofs.invoked.lost.Reads as lost-reads
-use Rattle.checks.proofs.bad_message.Reads as bad-message-reads
-use Rattle.checks.proofs.first_of.Reads as first-of-reads
-use Rattle.checks.proofs.never.Reads as never-reads
-use Rattle.checks.proofs.no_mail.Reads as no-mail-reads
-use Rattle.checks.proofs.refuse.Reads as refuse-reads
-use Rattle.checks.proofs.settle.Reads as settle-reads
 
--- src/invoked.rt:152:35
 bad-message-requires : tie.Need-bad-message-requires
 bad-message-requires c κs = search needs
 
--- src/invoked.rt:152:9
 refuse-requires : tie.Need-refuse-requires
 refuse-requires c κs = search needs
 
--- src/invoked.rt:153:9
 no-mail-requires : tie.Need-no-mail-requires
 no-mail-requires c κs = search needs
 
--- src/invoked.rt:154:9
 never-requires : tie.Need-never-requires
 never-requires c κs = search needs
 
--- src/invoked.rt:155:9
 never-requires-2 : tie.Need-never-requires-2
 never-requires-2 c κs = search needs
 
--- src/invoked.rt:156:9
 never-requires-3 : tie.Need-never-requires-3
 never-requires-3 c κs = search needs
 
--- src/invoked.rt:157:9
 never-requires-4 : tie.Need-never-requires-4
 never-requires-4 c κs = search needs
 
--- src/invoked.rt:158:9
 never-requires-5 : tie.Need-never-requires-5
 never-requires-5 c κs = search needs
 
--- src/invoked.rt:160:9
 first-of-requires : tie.Need-first-of-requires
 first-of-requires c κs = search needs
 
--- src/invoked.rt:161:9
 lost-requires : tie.Need-lost-requires
 lost-requires c κs = search needs
 
--- src/invoked.rt:162:5
 settle-requires : tie.Need-settle-requires
 settle-requires c κs = search needs
 
--- src/invoked.rt:148:1
 returns : tie.Need-returns
 unfolding dropOf firstOf
 returns c = rw (c .settle .ensures, c .before .lost .ensures, c .before .before .first-of .ensures, c .before .before .before .never5 .ensures, c .before .before .before .before .never4 .ensures, c .before .before .before .before .before .never3 .ensures, c .before .before .before .before .before .before .never2 .ensures, c .before .before .before .before .before .before .before .never .ensures, c .before .before .before .before .before .before .before .before .no-mail .ensures, c .before .before .before .before .before .before .before .before .before .refuse .ensures, c .before .before .before .before .before .before .before .before .before .before .bad-message .ensures)

@@ -1,230 +1,165 @@
+-- `machine::decide::decide` meets its contract. In each arm the case is known, and the callees give the rest. Assumes nothing.
 use borrow.Author.Needs.{needs}
 use Rattle.rules.specs.Machine.{decideOf}
 use Rattle.machine.proofs.decide.decide.Statement.{statement}
 use Rattle.machine.proofs.decide.decide.Tie as tie
-use Rattle.machine.proofs.decide.decide.Reads as reads
-use Rattle.machine.proofs.decide.decide.Lts as lts
-use Rattle.calls.proofs.delivered.deliver.Reads as deliver-reads
-use Rattle.calls.proofs.invoked.drop.Reads as drop-reads
-use Rattle.calls.proofs.invoked.invoke.Reads as invoke-reads
-use Rattle.passages.proofs.abort.Reads as abort-reads
-use Rattle.passages.proofs.begin.Reads as begin-reads
-use Rattle.passages.proofs.retire.Reads as retire-reads
-use Rattle.rounds.proofs.ask.Reads as ask-reads
-use Rattle.rounds.proofs.close.Reads as close-reads
-use Rattle.rounds.proofs.prepare.Reads as prepare-reads
-use Rattle.rounds.proofs.refresh.Reads as refresh-reads
-use Rattle.rounds.proofs.tell.Reads as tell-reads
-use Rattle.rounds.proofs.terminate.Reads as terminate-reads
-use Rattle.stations.proofs.crash.Reads as crash-reads
-use Rattle.stations.proofs.recover.Reads as recover-reads
-use Rattle.stations.proofs.sweep.Reads as sweep-reads
-use Rattle.stations.proofs.tick.Reads as tick-reads
 
--- src/decide.rt:19:22
 enum-known-step : tie.Need-enum-known-step
 enum-known-step c = search needs
 
--- src/decide.rt:19:35
 tick-requires : tie.Need-tick-requires
 tick-requires c κs = search needs
 
--- src/decide.rt:20:23
 enum-known-step-2 : tie.Need-enum-known-step-2
 enum-known-step-2 c = search needs
 
--- src/decide.rt:20:57
 begin-requires : tie.Need-begin-requires
 begin-requires c κs = search needs
 
--- src/decide.rt:21:24
 enum-known-step-3 : tie.Need-enum-known-step-3
 enum-known-step-3 c = search needs
 
--- src/decide.rt:21:64
 invoke-requires : tie.Need-invoke-requires
 invoke-requires c κs = search needs
 
--- src/decide.rt:22:25
 enum-known-step-4 : tie.Need-enum-known-step-4
 enum-known-step-4 c = search needs
 
--- src/decide.rt:22:55
 refresh-requires : tie.Need-refresh-requires
 refresh-requires c κs = search needs
 
--- src/decide.rt:23:27
 enum-known-step-5 : tie.Need-enum-known-step-5
 enum-known-step-5 c = search needs
 
--- src/decide.rt:23:39
 terminate-requires : tie.Need-terminate-requires
 terminate-requires c κs = search needs
 
--- src/decide.rt:24:25
 enum-known-step-6 : tie.Need-enum-known-step-6
 enum-known-step-6 c = search needs
 
--- src/decide.rt:24:37
 prepare-requires : tie.Need-prepare-requires
 prepare-requires c κs = search needs
 
--- src/decide.rt:25:21
 enum-known-step-7 : tie.Need-enum-known-step-7
 enum-known-step-7 c = search needs
 
--- src/decide.rt:25:39
 ask-requires : tie.Need-ask-requires
 ask-requires c κs = search needs
 
--- src/decide.rt:26:23
 enum-known-step-8 : tie.Need-enum-known-step-8
 enum-known-step-8 c = search needs
 
--- src/decide.rt:26:35
 close-requires : tie.Need-close-requires
 close-requires c κs = search needs
 
--- src/decide.rt:27:22
 enum-known-step-9 : tie.Need-enum-known-step-9
 enum-known-step-9 c = search needs
 
--- src/decide.rt:27:40
 tell-requires : tie.Need-tell-requires
 tell-requires c κs = search needs
 
--- src/decide.rt:28:23
 enum-known-step-10 : tie.Need-enum-known-step-10
 enum-known-step-10 c = search needs
 
--- src/decide.rt:28:35
 abort-requires : tie.Need-abort-requires
 abort-requires c κs = search needs
 
--- src/decide.rt:29:25
 enum-known-step-11 : tie.Need-enum-known-step-11
 enum-known-step-11 c = search needs
 
--- src/decide.rt:29:38
 deliver-requires : tie.Need-deliver-requires
 deliver-requires c κs = search needs
 
--- src/decide.rt:30:22
 enum-known-step-12 : tie.Need-enum-known-step-12
 enum-known-step-12 c = search needs
 
--- src/decide.rt:30:35
 drop-requires : tie.Need-drop-requires
 drop-requires c κs = search needs
 
--- src/decide.rt:31:23
 enum-known-step-13 : tie.Need-enum-known-step-13
 enum-known-step-13 c = search needs
 
--- src/decide.rt:31:33
 sweep-requires : tie.Need-sweep-requires
 sweep-requires c κs = search needs
 
--- src/decide.rt:32:23
 enum-known-step-14 : tie.Need-enum-known-step-14
 enum-known-step-14 c = search needs
 
--- src/decide.rt:32:33
 crash-requires : tie.Need-crash-requires
 crash-requires c κs = search needs
 
--- src/decide.rt:33:25
 enum-known-step-15 : tie.Need-enum-known-step-15
 enum-known-step-15 c = search needs
 
--- src/decide.rt:33:35
 recover-requires : tie.Need-recover-requires
 recover-requires c κs = search needs
 
--- src/decide.rt:34:24
 enum-known-step-16 : tie.Need-enum-known-step-16
 enum-known-step-16 c = search needs
 
--- src/decide.rt:34:36
 retire-requires : tie.Need-retire-requires
 retire-requires c κs = search needs
 
--- src/decide.rt:14:1
 returns : tie.Need-returns
 unfolding decideOf
 returns c = rw (c .tick .ensures, c .before .before .step .given .1)
 
--- src/decide.rt:14:1
 returns-2 : tie.Need-returns-2
 unfolding decideOf
 returns-2 c = rw (c .begin .ensures, c .before .before .step2 .given .1)
 
--- src/decide.rt:14:1
 returns-3 : tie.Need-returns-3
 unfolding decideOf
 returns-3 c = rw (c .invoke .ensures, c .before .before .step3 .given .1)
 
--- src/decide.rt:14:1
 returns-4 : tie.Need-returns-4
 unfolding decideOf
 returns-4 c = rw (c .refresh .ensures, c .before .before .step4 .given .1)
 
--- src/decide.rt:14:1
 returns-5 : tie.Need-returns-5
 unfolding decideOf
 returns-5 c = rw (c .terminate .ensures, c .before .before .step5 .given .1)
 
--- src/decide.rt:14:1
 returns-6 : tie.Need-returns-6
 unfolding decideOf
 returns-6 c = rw (c .prepare .ensures, c .before .before .step6 .given .1)
 
--- src/decide.rt:14:1
 returns-7 : tie.Need-returns-7
 unfolding decideOf
 returns-7 c = rw (c .ask .ensures, c .before .before .step7 .given .1)
 
--- src/decide.rt:14:1
 returns-8 : tie.Need-returns-8
 unfolding decideOf
 returns-8 c = rw (c .close .ensures, c .before .before .step8 .given .1)
 
--- src/decide.rt:14:1
 returns-9 : tie.Need-returns-9
 unfolding decideOf
 returns-9 c = rw (c .tell .ensures, c .before .before .step9 .given .1)
 
--- src/decide.rt:14:1
 returns-10 : tie.Need-returns-10
 unfolding decideOf
 returns-10 c = rw (c .abort .ensures, c .before .before .step10 .given .1)
 
--- src/decide.rt:14:1
 returns-11 : tie.Need-returns-11
 unfolding decideOf
 returns-11 c = rw (c .deliver .ensures, c .before .before .step11 .given .1)
 
--- src/decide.rt:14:1
 returns-12 : tie.Need-returns-12
 unfolding decideOf
 returns-12 c = rw (c .drop .ensures, c .before .before .step12 .given .1)
 
--- src/decide.rt:14:1
 returns-13 : tie.Need-returns-13
 unfolding decideOf
 returns-13 c = rw (c .sweep .ensures, c .before .before .step13 .given .1)
 
--- src/decide.rt:14:1
 returns-14 : tie.Need-returns-14
 unfolding decideOf
 returns-14 c = rw (c .crash .ensures, c .before .before .step14 .given .1)
 
--- src/decide.rt:14:1
 returns-15 : tie.Need-returns-15
 unfolding decideOf
 returns-15 c = rw (c .recover .ensures, c .before .before .step15 .given .1)
 
--- src/decide.rt:14:1
 returns-16 : tie.Need-returns-16
 unfolding decideOf
 returns-16 c = rw (c .retire .ensures, c .before .before .step16 .given .1)

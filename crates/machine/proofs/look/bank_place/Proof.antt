@@ -1,35 +1,26 @@
+-- `machine::look::bank_place` meets its contract. In each arm the case is known, and the callees give the rest. Assumes nothing.
 use borrow.Author.Needs.{needs}
 use Rattle.machine.proofs.look.bank_place.Statement.{statement}
 use Rattle.machine.proofs.look.bank_place.Tie as tie
-use Rattle.machine.proofs.look.bank_place.Reads as reads
-use Rattle.machine.proofs.look.bank_place.Lts as lts
-use Rattle.machine.proofs.look.body_bank.Reads as body-bank-reads
 
--- src/look.rt:161:29
 enum-told : tie.Need-enum-told
 enum-told c = search needs
 
--- src/look.rt:162:25
 enum-told-2 : tie.Need-enum-told-2
 enum-told-2 c = search needs
 
--- src/look.rt:163:25
 enum-told-3 : tie.Need-enum-told-3
 enum-told-3 c = search needs
 
--- src/look.rt:163:25
 body-bank-requires : tie.Need-body-bank-requires
 body-bank-requires c κs = search needs
 
--- src/look.rt:155:1
 returns : tie.Need-returns
 returns c = search needs
 
--- src/look.rt:155:1
 returns-2 : tie.Need-returns-2
 returns-2 c = search needs
 
--- src/look.rt:155:1
 returns-3 : tie.Need-returns-3
 returns-3 c = (rw (c .body-bank .ensures .0, c .before .enum-told3 .given .1), search needs)
 

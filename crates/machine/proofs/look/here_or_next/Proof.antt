@@ -1,18 +1,14 @@
+-- `machine::look::here_or_next` meets its contract. The definition computes to what the code makes. Assumes nothing.
 use borrow.Author.Needs.{needs}
 use Rattle.machine.proofs.look.here_or_next.Statement.{statement}
 use Rattle.machine.proofs.look.here_or_next.Tie as tie
-use Rattle.machine.proofs.look.here_or_next.Reads as reads
-use Rattle.machine.proofs.look.here_or_next.Lts as lts
 
--- src/look.rt:91:27
 add-result : tie.Need-add-result
 add-result c = search needs
 
--- src/look.rt:87:1
 returns : tie.Need-returns
 returns c = search needs
 
--- src/look.rt:87:1
 returns-2 : tie.Need-returns-2
 returns-2 c = rw (c .if1 .left)
 

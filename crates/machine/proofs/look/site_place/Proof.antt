@@ -1,42 +1,32 @@
+-- `machine::look::site_place` meets its contract. In each arm the case is known, and the definition computes there. Assumes nothing.
 use borrow.Author.Needs.{needs}
 use Rattle.machine.proofs.look.site_place.Statement.{statement}
 use Rattle.machine.proofs.look.site_place.Tie as tie
-use Rattle.machine.proofs.look.site_place.Reads as reads
-use Rattle.machine.proofs.look.site_place.Lts as lts
 
--- src/look.rt:134:23
 enum-known-at : tie.Need-enum-known-at
 enum-known-at c = search needs
 
--- src/look.rt:134:29
 cast-result : tie.Need-cast-result
 cast-result c = search needs
 
--- src/look.rt:135:26
 enum-told : tie.Need-enum-told
 enum-told c = search needs
 
--- src/look.rt:135:25
 cast-result-2 : tie.Need-cast-result-2
 cast-result-2 c = search needs
 
--- src/look.rt:136:26
 enum-told-2 : tie.Need-enum-told-2
 enum-told-2 c = search needs
 
--- src/look.rt:136:25
 cast-result-3 : tie.Need-cast-result-3
 cast-result-3 c = search needs
 
--- src/look.rt:130:1
 returns : tie.Need-returns
 returns c = (rw (c .before .at .given .1), search needs)
 
--- src/look.rt:130:1
 returns-2 : tie.Need-returns-2
 returns-2 c = (rw (c .before .enum-told .given .1), search needs)
 
--- src/look.rt:130:1
 returns-3 : tie.Need-returns-3
 returns-3 c = (rw (c .before .enum-told2 .given .1), search needs)
 

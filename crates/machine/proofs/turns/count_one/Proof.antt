@@ -1,27 +1,20 @@
+-- `machine::turns::count_one` meets its contract. In each arm the case is known, and the callees give the rest. Assumes nothing.
 use borrow.Author.Needs.{needs}
 use Rattle.machine.proofs.turns.count_one.Statement.{statement}
 use Rattle.machine.proofs.turns.count_one.Tie as tie
-use Rattle.machine.proofs.turns.count_one.Reads as reads
-use Rattle.machine.proofs.turns.count_one.Lts as lts
-use Rattle.machine.proofs.turns.counted.Reads as counted-reads
 
--- src/turns.rt:24:26
 enum-known-answer : tie.Need-enum-known-answer
 enum-known-answer c = search needs
 
--- src/turns.rt:24:49
 counted-requires : tie.Need-counted-requires
 counted-requires c κs = rw (c .before .answer .given .1) at (c .before .before .before .pre)
 
--- src/turns.rt:25:25
 enum-known-answer-2 : tie.Need-enum-known-answer-2
 enum-known-answer-2 c = search needs
 
--- src/turns.rt:19:1
 returns : tie.Need-returns
 returns c = rw (c .counted .ensures, c .before .before .answer .given .1)
 
--- src/turns.rt:19:1
 returns-2 : tie.Need-returns-2
 returns-2 c = rw (c .before .answer2 .given .1)
 

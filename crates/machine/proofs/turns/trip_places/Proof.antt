@@ -1,43 +1,32 @@
+-- `machine::turns::trip_places` meets its contract. In each arm the case is known, and the callees give the rest. Assumes nothing.
 use borrow.Author.Needs.{needs}
 use Rattle.machine.proofs.turns.trip_places.Statement.{statement}
 use Rattle.machine.proofs.turns.trip_places.Tie as tie
-use Rattle.machine.proofs.turns.trip_places.Reads as reads
-use Rattle.machine.proofs.turns.trip_places.Lts as lts
-use Rattle.machine.proofs.turns.slot_places.Reads as slot-places-reads
 
--- src/turns.rt:27:26
 enum-told : tie.Need-enum-told
 enum-told c = search needs
 
--- src/turns.rt:27:26
 slot-places-requires : tie.Need-slot-places-requires
 slot-places-requires c κs = search needs
 
--- src/turns.rt:28:21
 enum-known-trip : tie.Need-enum-known-trip
 enum-known-trip c = search needs
 
--- src/turns.rt:28:30
 slot-places-requires-2 : tie.Need-slot-places-requires-2
 slot-places-requires-2 c κs = search needs
 
--- src/turns.rt:29:21
 enum-known-trip-2 : tie.Need-enum-known-trip-2
 enum-known-trip-2 c = search needs
 
--- src/turns.rt:29:30
 slot-places-requires-3 : tie.Need-slot-places-requires-3
 slot-places-requires-3 c κs = search needs
 
--- src/turns.rt:22:1
 returns : tie.Need-returns
 returns c = rw (c .slot-places .ensures, c .before .enum-told .given .1)
 
--- src/turns.rt:22:1
 returns-2 : tie.Need-returns-2
 returns-2 c = rw (c .slot-places2 .ensures, c .before .before .trip .given .1)
 
--- src/turns.rt:22:1
 returns-3 : tie.Need-returns-3
 returns-3 c = rw (c .slot-places3 .ensures, c .before .before .trip2 .given .1)
 

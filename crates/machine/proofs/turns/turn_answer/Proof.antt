@@ -1,40 +1,29 @@
+-- `machine::turns::turn_answer` meets its contract. In each arm the case is known, and the callees give the rest. Assumes nothing.
 use borrow.Author.Needs.{needs}
 use Rattle.machine.proofs.turns.turn_answer.Statement.{statement}
 use Rattle.machine.proofs.turns.turn_answer.Tie as tie
-use Rattle.machine.proofs.turns.turn_answer.Reads as reads
-use Rattle.machine.proofs.turns.turn_answer.Lts as lts
-use Rattle.machine.proofs.turns.count_one.Reads as count-one-reads
-use Rattle.stations.proofs.is_swept.Reads as is-swept-reads
 
--- src/turns.rt:71:26
 enum-told : tie.Need-enum-told
 enum-told c = search needs
 
--- src/turns.rt:72:45
 enum-told-2 : tie.Need-enum-told-2
 enum-told-2 c = search needs
 
--- src/turns.rt:72:45
 is-swept-requires : tie.Need-is-swept-requires
 is-swept-requires c κs = search needs
 
--- src/turns.rt:72:27
 count-one-requires : tie.Need-count-one-requires
 count-one-requires c κs = rw (c .before .enum-told2 .given .1) at (c .before .before .before .pre)
 
--- src/turns.rt:73:27
 enum-told-3 : tie.Need-enum-told-3
 enum-told-3 c = search needs
 
--- src/turns.rt:66:1
 returns : tie.Need-returns
 returns c = rw (c .enum-told .given .1)
 
--- src/turns.rt:66:1
 returns-2 : tie.Need-returns-2
 returns-2 c = rw (c .count-one .ensures, c .before .is-swept .ensures, c .before .before .enum-told2 .given .1)
 
--- src/turns.rt:66:1
 returns-3 : tie.Need-returns-3
 returns-3 c = rw (c .enum-told3 .given .1)
 

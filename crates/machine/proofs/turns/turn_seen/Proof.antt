@@ -1,48 +1,35 @@
+-- `machine::turns::turn_seen` meets its contract. In each arm the case is known, and the callees give the rest. Assumes nothing.
 use borrow.Author.Needs.{needs}
 use Rattle.machine.proofs.turns.turn_seen.Statement.{statement}
 use Rattle.machine.proofs.turns.turn_seen.Tie as tie
-use Rattle.machine.proofs.turns.turn_seen.Reads as reads
-use Rattle.machine.proofs.turns.turn_seen.Lts as lts
-use Rattle.stations.proofs.crashed_slot.Reads as crashed-slot-reads
-use Rattle.stations.proofs.swept_slot.Reads as swept-slot-reads
 
--- src/turns.rt:51:26
 enum-told : tie.Need-enum-told
 enum-told c = search needs
 
--- src/turns.rt:52:21
 enum-known-trip : tie.Need-enum-known-trip
 enum-known-trip c = search needs
 
--- src/turns.rt:52:47
 cast-swept-slot : tie.Need-cast-swept-slot
 cast-swept-slot c = search needs
 
--- src/turns.rt:52:30
 swept-slot-requires : tie.Need-swept-slot-requires
 swept-slot-requires c κs = search needs
 
--- src/turns.rt:53:21
 enum-known-trip-2 : tie.Need-enum-known-trip-2
 enum-known-trip-2 c = search needs
 
--- src/turns.rt:53:49
 cast-crashed-slot : tie.Need-cast-crashed-slot
 cast-crashed-slot c = search needs
 
--- src/turns.rt:53:30
 crashed-slot-requires : tie.Need-crashed-slot-requires
 crashed-slot-requires c κs = search needs
 
--- src/turns.rt:46:1
 returns : tie.Need-returns
 returns c = rw (c .enum-told .given .1)
 
--- src/turns.rt:46:1
 returns-2 : tie.Need-returns-2
 returns-2 c = rw (c .swept-slot .ensures, c .before .before .trip .given .1)
 
--- src/turns.rt:46:1
 returns-3 : tie.Need-returns-3
 returns-3 c = rw (c .crashed-slot .ensures, c .before .before .trip2 .given .1)
 

@@ -1,3 +1,4 @@
+-- `machine::whole::has_message` meets its contract. The loop carries what the definition gives up to the index, and each turn adds one more. Assumes nothing.
 use Prim.Native.Nat.{_-_, _≤_}
 use native.Mathlib.Omega.{arith}
 use native.Mathlib.Numerals.{add-one}
@@ -9,9 +10,6 @@ use Rattle.rules.specs.Machine.{isMessageOf}
 use Rattle.rules.specs.Tables.{pastMessage}
 use Rattle.machine.proofs.whole.has_message.Statement.{statement}
 use Rattle.machine.proofs.whole.has_message.Tie as tie
-use Rattle.machine.proofs.whole.has_message.Reads as reads
-use Rattle.machine.proofs.whole.has_message.Lts as lts
-use Rattle.machine.proofs.whole.is_message_of.Reads as is-message-of-reads
 
 abbrev Inv-loop : tie.InvT-loop
 Inv-loop slot messages found₀ m₀ found m = (found ≡ someUpTo (λ k. isMessageOf slot (getD messages k pastMessage)) m) × (m ≤ 32)
@@ -19,37 +17,29 @@ Inv-loop slot messages found₀ m₀ found m = (found ≡ someUpTo (λ k. isMess
 abbrev μ-loop : tie.MeasureT-loop
 μ-loop slot messages found₀ m₀ found m = 32 - m
 
--- src/whole.rt:131:5
 loop-holds : tie.Need-loop-holds Inv-loop μ-loop
 unfolding someUpTo
 loop-holds c = (refl, search needs)
 
--- src/whole.rt:132:45
 mul-is-message-of : tie.Need-mul-is-message-of Inv-loop μ-loop
 mul-is-message-of c = search needs
 
--- src/whole.rt:132:45
 array-copy-out-is-message-of : tie.Need-array-copy-out-is-message-of Inv-loop μ-loop
 array-copy-out-is-message-of c = search needs
 
--- src/whole.rt:132:25
 is-message-of-requires : tie.Need-is-message-of-requires Inv-loop μ-loop
 is-message-of-requires c κs = search needs
 
--- src/whole.rt:133:9
 add-m : tie.Need-add-m Inv-loop μ-loop
 add-m c = search needs
 
--- src/whole.rt:131:5
 loop-less : tie.Need-loop-less Inv-loop μ-loop
 loop-less c = search needs
 
--- src/whole.rt:131:5
 loop-again : tie.Need-loop-again Inv-loop μ-loop
 unfolding someUpTo
 loop-again c = (rw (add-one, c .is-message-of .ensures, ← c .before .before .before .loop .inv .0), search needs)
 
--- src/whole.rt:126:1
 returns : tie.Need-returns Inv-loop μ-loop
 returns c =
     let e : c .before .loop .m ≡ 32 = omega arith in rw e at (c .before .loop .inv .0)

@@ -1,3 +1,4 @@
+-- `machine::whole::has_visit` meets its contract. The loop carries what the definition gives up to the index, and each turn adds one more. Assumes nothing.
 use Prim.Native.Nat.{_-_, _≤_}
 use native.Mathlib.Omega.{arith}
 use native.Mathlib.Numerals.{add-one}
@@ -8,8 +9,6 @@ use Rattle.rules.specs.Loops.{someUpTo}
 use Rattle.rules.specs.Tables.{visitPlace, pastVisit}
 use Rattle.machine.proofs.whole.has_visit.Statement.{statement}
 use Rattle.machine.proofs.whole.has_visit.Tie as tie
-use Rattle.machine.proofs.whole.has_visit.Reads as reads
-use Rattle.machine.proofs.whole.has_visit.Lts as lts
 
 abbrev Inv-loop : tie.InvT-loop
 Inv-loop slot visits found₀ s₀ found s = (found ≡ someUpTo (λ k. getD visits (visitPlace k slot) pastVisit .there) s) × (s ≤ 8)
@@ -17,41 +16,32 @@ Inv-loop slot visits found₀ s₀ found s = (found ≡ someUpTo (λ k. getD vis
 abbrev μ-loop : tie.MeasureT-loop
 μ-loop slot visits found₀ s₀ found s = 8 - s
 
--- src/whole.rt:118:5
 loop-holds : tie.Need-loop-holds Inv-loop μ-loop
 unfolding someUpTo
 loop-holds c = (refl, search needs)
 
--- src/whole.rt:119:24
 mul-v : tie.Need-mul-v Inv-loop μ-loop
 mul-v c = search needs
 
--- src/whole.rt:119:24
 add-v : tie.Need-add-v Inv-loop μ-loop
 add-v c = search needs
 
--- src/whole.rt:119:17
 mul-v-2 : tie.Need-mul-v-2 Inv-loop μ-loop
 mul-v-2 c = search needs
 
--- src/whole.rt:119:17
 array-copy-out-v : tie.Need-array-copy-out-v Inv-loop μ-loop
 array-copy-out-v c = search needs
 
--- src/whole.rt:121:9
 add-s : tie.Need-add-s Inv-loop μ-loop
 add-s c = search needs
 
--- src/whole.rt:118:5
 loop-less : tie.Need-loop-less Inv-loop μ-loop
 loop-less c = search needs
 
--- src/whole.rt:118:5
 loop-again : tie.Need-loop-again Inv-loop μ-loop
 unfolding someUpTo
 loop-again c = (rw (add-one, ← c .before .before .before .loop .inv .0), search needs)
 
--- src/whole.rt:112:1
 returns : tie.Need-returns Inv-loop μ-loop
 returns c =
     let e : c .before .loop .s ≡ 8 = omega arith in rw e at (c .before .loop .inv .0)

@@ -1,3 +1,4 @@
+-- `machine::whole::head` meets its contract. What its callees ensure, put together, is the definition. Assumes nothing.
 use Rattle.rules.specs.RangesLaws.{placed-places}
 use Rattle.rules.specs.Machine.{placesOf}
 use Rattle.machine.proofs.Trips.{sane-at}
@@ -5,35 +6,22 @@ use borrow.Author.Needs.{needs}
 use Rattle.rules.specs.Machine.{headOf}
 use Rattle.machine.proofs.whole.head.Statement.{statement}
 use Rattle.machine.proofs.whole.head.Tie as tie
-use Rattle.machine.proofs.whole.head.Reads as reads
-use Rattle.machine.proofs.whole.head.Lts as lts
-use Rattle.machine.proofs.decide.decide.Reads as decide-reads
-use Rattle.machine.proofs.whole.places_of.Reads as places-of-reads
-use Rattle.machine.proofs.whole.remains.Reads as remains-reads
-use Rattle.machine.proofs.whole.see.Reads as see-reads
-use Rattle.machine.proofs.whole.store.Reads as store-reads
 
--- src/whole.rt:153:9
 places-of-requires : tie.Need-places-of-requires
 places-of-requires c κs = search needs
 
--- src/whole.rt:154:9
 see-requires : tie.Need-see-requires
 see-requires c κs = rw (c .places-of .ensures) (placed-places (c .before .args .t) (c .before .args .look))
 
--- src/whole.rt:155:38
 remains-requires : tie.Need-remains-requires
 remains-requires c κs = rw (c .before .places-of .ensures) (placed-places (c .before .before .args .t) (c .before .before .args .look) .slot)
 
--- src/whole.rt:155:9
 decide-requires : tie.Need-decide-requires
 decide-requires c κs = rw (c .before .see .ensures, c .before .before .places-of .ensures) (sane-at (c .before .before .before .args .t) (placesOf (c .before .before .before .args .t) (c .before .before .before .args .look)) (c .before .before .before .pre .0) (placed-places (c .before .before .before .args .t) (c .before .before .before .args .look)))
 
--- src/whole.rt:158:9
 store-requires : tie.Need-store-requires
 store-requires c κs = rw (c .before .before .before .before .places-of .ensures) (placed-places (c .before .before .before .before .before .args .t) (c .before .before .before .before .before .args .look))
 
--- src/whole.rt:149:1
 returns : tie.Need-returns
 unfolding headOf
 returns c = rw (c .store .ensures, c .before .before .decide .ensures, c .before .before .before .remains .ensures, c .before .before .before .before .see .ensures, c .before .before .before .before .before .places-of .ensures, c .before .before .before .before .before .before .pre .1)

@@ -1,32 +1,22 @@
+-- `machine::whole::step_in_range` meets its contract. What its callees ensure, put together, is the definition. Assumes nothing.
 use Rattle.machine.proofs.Trips.{turn-count-most, trip-starts}
 use borrow.Author.Needs.{needs}
 use Rattle.rules.specs.Machine.{stepInRangeOf}
 use Rattle.machine.proofs.whole.step_in_range.Statement.{statement}
 use Rattle.machine.proofs.whole.step_in_range.Tie as tie
-use Rattle.machine.proofs.whole.step_in_range.Reads as reads
-use Rattle.machine.proofs.whole.step_in_range.Lts as lts
-use Rattle.machine.proofs.look.look_of.Reads as look-of-reads
-use Rattle.machine.proofs.turns.turn_count.Reads as turn-count-reads
-use Rattle.machine.proofs.whole.head.Reads as head-reads
-use Rattle.machine.proofs.whole.turns.Reads as turns-reads
 
--- src/whole.rt:203:9
 look-of-requires : tie.Need-look-of-requires
 look-of-requires c κs = search needs
 
--- src/whole.rt:205:9
 head-requires : tie.Need-head-requires
 head-requires c κs = search needs
 
--- src/whole.rt:207:20
 turn-count-requires : tie.Need-turn-count-requires
 turn-count-requires c κs = search needs
 
--- src/whole.rt:207:5
 turns-requires : tie.Need-turns-requires
 turns-requires c κs = (rw (c .turn-count .ensures) (turn-count-most (c .before .before .look-of .result .trip) (c .before .head .result .answer)), rw (c .before .before .look-of .ensures, c .before .head .ensures) (trip-starts (c .before .before .before .args .t) (c .before .before .before .args .step)))
 
--- src/whole.rt:199:1
 returns : tie.Need-returns
 unfolding stepInRangeOf
 returns c = rw (c .turns .ensures, c .before .turn-count .ensures, c .before .before .head .ensures, c .before .before .before .look-of .ensures)

@@ -1,116 +1,88 @@
+-- `machine::whole::store` meets its contract. The definition computes to what the code makes. Assumes nothing.
 use mathlib.Core.Path.{refl}
 use borrow.Author.Needs.{needs}
 use Rattle.rules.specs.Machine.{stored}
 use Rattle.machine.proofs.whole.store.Statement.{statement}
 use Rattle.machine.proofs.whole.store.Tie as tie
-use Rattle.machine.proofs.whole.store.Reads as reads
-use Rattle.machine.proofs.whole.store.Lts as lts
 
--- src/whole.rt:89:13
 mul-b : tie.Need-mul-b
 mul-b c = search needs
 
--- src/whole.rt:90:13
 mul-v : tie.Need-mul-v
 mul-v c = search needs
 
--- src/whole.rt:90:13
 add-v : tie.Need-add-v
 add-v c = search needs
 
--- src/whole.rt:97:14
 array-copy-out-o0 : tie.Need-array-copy-out-o0
 array-copy-out-o0 c = search needs
 
--- src/whole.rt:98:14
 array-copy-out-o1 : tie.Need-array-copy-out-o1
 array-copy-out-o1 c = search needs
 
--- src/whole.rt:99:14
 array-copy-out-o2 : tie.Need-array-copy-out-o2
 array-copy-out-o2 c = search needs
 
--- src/whole.rt:100:14
 array-copy-out-o3 : tie.Need-array-copy-out-o3
 array-copy-out-o3 c = search needs
 
--- src/whole.rt:102:5
 mul-site : tie.Need-mul-site
 mul-site c = search needs
 
--- src/whole.rt:102:5
 element-set-from-site : tie.Need-element-set-from-site
 element-set-from-site c = search needs
 
--- src/whole.rt:103:5
 mul-passage : tie.Need-mul-passage
 mul-passage c = search needs
 
--- src/whole.rt:103:5
 element-set-from-passage : tie.Need-element-set-from-passage
 element-set-from-passage c = search needs
 
--- src/whole.rt:104:5
 mul-visit : tie.Need-mul-visit
 mul-visit c = search needs
 
--- src/whole.rt:104:5
 element-set-from-visit : tie.Need-element-set-from-visit
 element-set-from-visit c = search needs
 
--- src/whole.rt:105:5
 mul-message : tie.Need-mul-message
 mul-message c = search needs
 
--- src/whole.rt:105:5
 element-set-from-message : tie.Need-element-set-from-message
 element-set-from-message c = search needs
 
--- src/whole.rt:106:5
 mul-o0 : tie.Need-mul-o0
 mul-o0 c = search needs
 
--- src/whole.rt:106:5
 element-set-from-o0 : tie.Need-element-set-from-o0
 element-set-from-o0 c = search needs
 
--- src/whole.rt:107:18
 add-o1 : tie.Need-add-o1
 add-o1 c = search needs
 
--- src/whole.rt:107:5
 mul-o1 : tie.Need-mul-o1
 mul-o1 c = search needs
 
--- src/whole.rt:107:5
 element-set-from-o1 : tie.Need-element-set-from-o1
 element-set-from-o1 c = search needs
 
--- src/whole.rt:108:18
 add-o2 : tie.Need-add-o2
 add-o2 c = search needs
 
--- src/whole.rt:108:5
 mul-o2 : tie.Need-mul-o2
 mul-o2 c = search needs
 
--- src/whole.rt:108:5
 element-set-from-o2 : tie.Need-element-set-from-o2
 element-set-from-o2 c = search needs
 
--- src/whole.rt:109:18
 add-o3 : tie.Need-add-o3
 add-o3 c = search needs
 
--- src/whole.rt:109:5
 mul-o3 : tie.Need-mul-o3
 mul-o3 c = search needs
 
--- src/whole.rt:109:5
 element-set-from-o3 : tie.Need-element-set-from-o3
 element-set-from-o3 c = search needs
 
--- src/whole.rt:83:1
 returns : tie.Need-returns
 unfolding stored
 returns c = refl

@@ -1,3 +1,4 @@
+-- `machine::whole::turns` meets its contract. The loop carries what the definition gives up to the index, and each turn adds one more. Assumes nothing.
 use Rattle.machine.proofs.Trips.{turn-counts}
 use Prim.Native.Nat.{_-_, _≤_}
 use native.Mathlib.Omega.{arith}
@@ -9,9 +10,6 @@ use Rattle.rules.specs.Machine.{turnsUpTo}
 use Rattle.machine.specs.Turns.{tripValue}
 use Rattle.machine.proofs.whole.turns.Statement.{statement}
 use Rattle.machine.proofs.whole.turns.Tie as tie
-use Rattle.machine.proofs.whole.turns.Reads as reads
-use Rattle.machine.proofs.whole.turns.Lts as lts
-use Rattle.machine.proofs.whole.turn.Reads as turn-reads
 
 abbrev Inv-loop : tie.InvT-loop
 Inv-loop trip n done₀ slot₀ done slot = (done ≡ turnsUpTo trip done₀ slot) × (slot ≤ n) × (tripValue trip (done .answer) ≤ slot)
@@ -19,29 +17,23 @@ Inv-loop trip n done₀ slot₀ done slot = (done ≡ turnsUpTo trip done₀ slo
 abbrev μ-loop : tie.MeasureT-loop
 μ-loop trip n done₀ slot₀ done slot = n - slot
 
--- src/whole.rt:190:5
 loop-holds : tie.Need-loop-holds Inv-loop μ-loop
 unfolding turnsUpTo
 loop-holds c = (refl, search needs, omega arith)
 
--- src/whole.rt:191:13
 turn-requires : tie.Need-turn-requires Inv-loop μ-loop
 turn-requires c κs = search needs
 
--- src/whole.rt:193:9
 add-slot : tie.Need-add-slot Inv-loop μ-loop
 add-slot c = search needs
 
--- src/whole.rt:190:5
 loop-less : tie.Need-loop-less Inv-loop μ-loop
 loop-less c = search needs
 
--- src/whole.rt:190:5
 loop-again : tie.Need-loop-again Inv-loop μ-loop
 unfolding turnsUpTo
 loop-again c = (rw (add-one, c .turn .ensures, ← c .before .before .loop .inv .0), search needs, rw (c .turn .ensures) (turn-counts (c .before .before .before .args .trip) (c .before .before .loop .slot) (c .before .before .loop .done) (c .before .before .loop .inv .2)))
 
--- src/whole.rt:184:1
 returns : tie.Need-returns Inv-loop μ-loop
 returns c =
     let e : c .before .loop .slot ≡ c .before .before .args .n = omega arith in rw e at (c .before .loop .inv .0)

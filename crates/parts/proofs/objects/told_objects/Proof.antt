@@ -1,35 +1,26 @@
+-- `parts::objects::told_objects` meets its contract. In each arm the case is known, and the callees give the rest. Assumes nothing.
 use borrow.Author.Needs.{needs}
 use Rattle.parts.proofs.objects.told_objects.Statement.{statement}
 use Rattle.parts.proofs.objects.told_objects.Tie as tie
-use Rattle.parts.proofs.objects.told_objects.Reads as reads
-use Rattle.parts.proofs.objects.told_objects.Lts as lts
-use Rattle.parts.proofs.objects.freed_all.Reads as freed-all-reads
 
--- src/objects.rt:106:29
 enum-told : tie.Need-enum-told
 enum-told c = search needs
 
--- src/objects.rt:107:31
 enum-told-2 : tie.Need-enum-told-2
 enum-told-2 c = search needs
 
--- src/objects.rt:108:26
 enum-told-3 : tie.Need-enum-told-3
 enum-told-3 c = search needs
 
--- src/objects.rt:108:26
 freed-all-requires : tie.Need-freed-all-requires
 freed-all-requires c κs = search needs
 
--- src/objects.rt:102:1
 returns : tie.Need-returns
 returns c = search needs
 
--- src/objects.rt:102:1
 returns-2 : tie.Need-returns-2
 returns-2 c = search needs
 
--- src/objects.rt:102:1
 returns-3 : tie.Need-returns-3
 returns-3 c = rw (c .freed-all .ensures, c .before .enum-told3 .given .1)
 

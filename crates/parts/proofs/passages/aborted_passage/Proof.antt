@@ -1,15 +1,11 @@
+-- `parts::passages::aborted_passage` meets its contract. What its callees ensure, put together, is the definition. Assumes nothing.
 use borrow.Author.Needs.{needs}
 use Rattle.parts.proofs.passages.aborted_passage.Statement.{statement}
 use Rattle.parts.proofs.passages.aborted_passage.Tie as tie
-use Rattle.parts.proofs.passages.aborted_passage.Reads as reads
-use Rattle.parts.proofs.passages.aborted_passage.Lts as lts
-use Rattle.parts.proofs.passages.with_phase.Reads as with-phase-reads
 
--- src/passages.rt:132:9
 with-phase-requires : tie.Need-with-phase-requires
 with-phase-requires c κs = search needs
 
--- src/passages.rt:128:1
 returns : tie.Need-returns
 returns c = rw (c .with-phase .ensures)
 

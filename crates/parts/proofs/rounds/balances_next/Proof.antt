@@ -1,76 +1,57 @@
+-- `parts::rounds::balances_next` meets its contract. What its callees ensure, put together, is the definition. Assumes nothing.
 use borrow.Author.Needs.{needs}
 use Rattle.parts.proofs.Eight.{most-of-eight}
 use Rattle.parts.proofs.rounds.balances_next.Statement.{statement}
 use Rattle.parts.proofs.rounds.balances_next.Tie as tie
-use Rattle.parts.proofs.rounds.balances_next.Reads as reads
-use Rattle.parts.proofs.rounds.balances_next.Lts as lts
-use Rattle.parts.proofs.rounds.balance_next.Reads as balance-next-reads
 
--- src/rounds.rt:84:35
 array-read-balance-next : tie.Need-array-read-balance-next
 array-read-balance-next c = search needs
 
--- src/rounds.rt:84:9
 balance-next-requires : tie.Need-balance-next-requires
 balance-next-requires c κs = (search needs, search needs, c .pre .1 0)
 
--- src/rounds.rt:85:35
 array-read-balance-next-2 : tie.Need-array-read-balance-next-2
 array-read-balance-next-2 c = search needs
 
--- src/rounds.rt:85:9
 balance-next-requires-2 : tie.Need-balance-next-requires-2
 balance-next-requires-2 c κs = (search needs, search needs, c .before .pre .1 1)
 
--- src/rounds.rt:86:35
 array-read-balance-next-3 : tie.Need-array-read-balance-next-3
 array-read-balance-next-3 c = search needs
 
--- src/rounds.rt:86:9
 balance-next-requires-3 : tie.Need-balance-next-requires-3
 balance-next-requires-3 c κs = (search needs, search needs, c .before .before .pre .1 2)
 
--- src/rounds.rt:87:35
 array-read-balance-next-4 : tie.Need-array-read-balance-next-4
 array-read-balance-next-4 c = search needs
 
--- src/rounds.rt:87:9
 balance-next-requires-4 : tie.Need-balance-next-requires-4
 balance-next-requires-4 c κs = (search needs, search needs, c .before .before .before .pre .1 3)
 
--- src/rounds.rt:88:35
 array-read-balance-next-5 : tie.Need-array-read-balance-next-5
 array-read-balance-next-5 c = search needs
 
--- src/rounds.rt:88:9
 balance-next-requires-5 : tie.Need-balance-next-requires-5
 balance-next-requires-5 c κs = (search needs, search needs, c .before .before .before .before .pre .1 4)
 
--- src/rounds.rt:89:35
 array-read-balance-next-6 : tie.Need-array-read-balance-next-6
 array-read-balance-next-6 c = search needs
 
--- src/rounds.rt:89:9
 balance-next-requires-6 : tie.Need-balance-next-requires-6
 balance-next-requires-6 c κs = (search needs, search needs, c .before .before .before .before .before .pre .1 5)
 
--- src/rounds.rt:90:35
 array-read-balance-next-7 : tie.Need-array-read-balance-next-7
 array-read-balance-next-7 c = search needs
 
--- src/rounds.rt:90:9
 balance-next-requires-7 : tie.Need-balance-next-requires-7
 balance-next-requires-7 c κs = (search needs, search needs, c .before .before .before .before .before .before .pre .1 6)
 
--- src/rounds.rt:91:35
 array-read-balance-next-8 : tie.Need-array-read-balance-next-8
 array-read-balance-next-8 c = search needs
 
--- src/rounds.rt:91:9
 balance-next-requires-8 : tie.Need-balance-next-requires-8
 balance-next-requires-8 c κs = (search needs, search needs, c .before .before .before .before .before .before .before .pre .1 7)
 
--- src/rounds.rt:79:1
 returns : tie.Need-returns
 returns c = (rw (c .balance-next8 .ensures .0, c .before .balance-next7 .ensures .0, c .before .before .balance-next6 .ensures .0, c .before .before .before .balance-next5 .ensures .0, c .before .before .before .before .balance-next4 .ensures .0, c .before .before .before .before .before .balance-next3 .ensures .0, c .before .before .before .before .before .before .balance-next2 .ensures .0, c .before .before .before .before .before .before .before .balance-next .ensures .0), most-of-eight (c .before .before .before .before .before .before .before .balance-next .ensures .1) (c .before .before .before .before .before .before .balance-next2 .ensures .1) (c .before .before .before .before .before .balance-next3 .ensures .1) (c .before .before .before .before .balance-next4 .ensures .1) (c .before .before .before .balance-next5 .ensures .1) (c .before .before .balance-next6 .ensures .1) (c .before .balance-next7 .ensures .1) (c .balance-next8 .ensures .1))
 

@@ -1,3 +1,4 @@
+-- `parts::rounds::largest_quiesce` meets its contract. The loop carries what the definition gives up to the index, and each turn adds one more. Assumes nothing.
 use Prim.Native.Nat.{_-_, _≤_}
 use mathlib.Core.Path.{_≡_, refl}
 use native.Mathlib.Omega.{arith}
@@ -8,10 +9,6 @@ use Rattle.rules.specs.Parts.{largestQuiesce}
 use Rattle.parts.specs.Balances.{quiesceOf}
 use Rattle.parts.proofs.rounds.largest_quiesce.Statement.{statement}
 use Rattle.parts.proofs.rounds.largest_quiesce.Tie as tie
-use Rattle.parts.proofs.rounds.largest_quiesce.Reads as reads
-use Rattle.parts.proofs.rounds.largest_quiesce.Lts as lts
-use Rattle.parts.proofs.rounds.quiesce_by.Reads as quiesce-by-reads
-use Rattle.parts.proofs.visits.larger.Reads as larger-reads
 
 abbrev Inv-loop : tie.InvT-loop
 Inv-loop round most₀ s₀ most s = (most ≡ mostUpTo (λ k. quiesceOf round k) s) × (s ≤ 8)
@@ -19,33 +16,26 @@ Inv-loop round most₀ s₀ most s = (most ≡ mostUpTo (λ k. quiesceOf round k
 abbrev μ-loop : tie.MeasureT-loop
 μ-loop round most₀ s₀ most s = 8 - s
 
--- src/rounds.rt:143:5
 loop-holds : tie.Need-loop-holds Inv-loop μ-loop
 unfolding mostUpTo
 loop-holds c = (refl, search needs)
 
--- src/rounds.rt:144:29
 quiesce-by-requires : tie.Need-quiesce-by-requires Inv-loop μ-loop
 quiesce-by-requires c κs = search needs
 
--- src/rounds.rt:144:9
 larger-requires : tie.Need-larger-requires Inv-loop μ-loop
 larger-requires c κs = search needs
 
--- src/rounds.rt:145:9
 add-s : tie.Need-add-s Inv-loop μ-loop
 add-s c = search needs
 
--- src/rounds.rt:143:5
 loop-less : tie.Need-loop-less Inv-loop μ-loop
 loop-less c = search needs
 
--- src/rounds.rt:143:5
 loop-again : tie.Need-loop-again Inv-loop μ-loop
 unfolding mostUpTo
 loop-again c = (rw (add-one, c .larger .ensures, c .before .quiesce-by .ensures, ← c .before .before .before .loop .inv .0), search needs)
 
--- src/rounds.rt:138:1
 returns : tie.Need-returns Inv-loop μ-loop
 unfolding largestQuiesce
 returns c =

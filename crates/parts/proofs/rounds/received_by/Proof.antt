@@ -1,32 +1,23 @@
+-- `parts::rounds::received_by` meets its contract. What its callees ensure, put together, is the definition. Assumes nothing.
 use borrow.Author.Needs.{needs}
 use Rattle.parts.proofs.rounds.received_by.Statement.{statement}
 use Rattle.parts.proofs.rounds.received_by.Tie as tie
-use Rattle.parts.proofs.rounds.received_by.Reads as reads
-use Rattle.parts.proofs.rounds.received_by.Lts as lts
-use Rattle.parts.proofs.rounds.has_answered.Reads as has-answered-reads
-use Rattle.parts.proofs.rounds.wide.Reads as wide-reads
 
--- src/rounds.rt:89:8
 has-answered-requires : tie.Need-has-answered-requires
 has-answered-requires c κs = search needs
 
--- src/rounds.rt:90:17
 mul-f : tie.Need-mul-f
 mul-f c = search needs
 
--- src/rounds.rt:90:17
 element-copy-out-f : tie.Need-element-copy-out-f
 element-copy-out-f c = search needs
 
--- src/rounds.rt:91:9
 wide-requires : tie.Need-wide-requires
 wide-requires c κs = search needs
 
--- src/rounds.rt:85:1
 returns : tie.Need-returns
 returns c = rw (c .wide .ensures .0, ← c .before .before .before .has-answered .ensures, c .before .before .if1 .taken)
 
--- src/rounds.rt:85:1
 returns-2 : tie.Need-returns-2
 returns-2 c = rw (← c .before .has-answered .ensures, c .if1 .left)
 

@@ -1,27 +1,21 @@
+-- `parts::rounds::with_answer` meets its contract. The definition computes to what the code makes. Assumes nothing.
 use borrow.Author.Needs.{needs}
 use Rattle.parts.proofs.Eight.{bit-fits}
 use Rattle.parts.proofs.rounds.with_answer.Statement.{statement}
 use Rattle.parts.proofs.rounds.with_answer.Tie as tie
-use Rattle.parts.proofs.rounds.with_answer.Reads as reads
-use Rattle.parts.proofs.rounds.with_answer.Lts as lts
 
--- src/rounds.rt:23:46
 cast-next : tie.Need-cast-next
 cast-next c = search needs
 
--- src/rounds.rt:23:39
 shl-next : tie.Need-shl-next
 shl-next c = search needs
 
--- src/rounds.rt:24:5
 mul-f : tie.Need-mul-f
 mul-f c = search needs
 
--- src/rounds.rt:24:5
 element-set-from-f : tie.Need-element-set-from-f
 element-set-from-f c = search needs
 
--- src/rounds.rt:18:1
 returns : tie.Need-returns
 returns c = rw (bit-fits (c .before .args .site) (c .before .pre))
 

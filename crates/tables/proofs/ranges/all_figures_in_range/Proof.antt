@@ -1,3 +1,4 @@
+-- `tables::ranges::all_figures_in_range` meets its contract. The loop carries what the definition gives up to the index, and each turn adds one more. Assumes nothing.
 use Prim.Native.Nat.{_-_, _≤_}
 use native.Mathlib.Omega.{arith}
 use native.Mathlib.Numerals.{add-one}
@@ -9,9 +10,6 @@ use Rattle.rules.specs.Ranges.{figuresInRange}
 use Rattle.rules.specs.Tables.{pastFigures}
 use Rattle.tables.proofs.ranges.all_figures_in_range.Statement.{statement}
 use Rattle.tables.proofs.ranges.all_figures_in_range.Tie as tie
-use Rattle.tables.proofs.ranges.all_figures_in_range.Reads as reads
-use Rattle.tables.proofs.ranges.all_figures_in_range.Lts as lts
-use Rattle.tables.proofs.ranges.figures_in_range.Reads as figures-in-range-reads
 
 abbrev Inv-loop : tie.InvT-loop
 Inv-loop figures ok₀ s₀ ok s = (ok ≡ everyUpTo (λ k. figuresInRange (getD figures k pastFigures)) s) × (s ≤ 8)
@@ -19,37 +17,29 @@ Inv-loop figures ok₀ s₀ ok s = (ok ≡ everyUpTo (λ k. figuresInRange (getD
 abbrev μ-loop : tie.MeasureT-loop
 μ-loop figures ok₀ s₀ ok s = 8 - s
 
--- src/ranges.rt:89:5
 loop-holds : tie.Need-loop-holds Inv-loop μ-loop
 unfolding everyUpTo
 loop-holds c = (refl, search needs)
 
--- src/ranges.rt:90:36
 mul-figures-in-range : tie.Need-mul-figures-in-range Inv-loop μ-loop
 mul-figures-in-range c = search needs
 
--- src/ranges.rt:90:36
 array-copy-out-figures-in-range : tie.Need-array-copy-out-figures-in-range Inv-loop μ-loop
 array-copy-out-figures-in-range c = search needs
 
--- src/ranges.rt:90:19
 figures-in-range-requires : tie.Need-figures-in-range-requires Inv-loop μ-loop
 figures-in-range-requires c κs = search needs
 
--- src/ranges.rt:91:9
 add-s : tie.Need-add-s Inv-loop μ-loop
 add-s c = search needs
 
--- src/ranges.rt:89:5
 loop-less : tie.Need-loop-less Inv-loop μ-loop
 loop-less c = search needs
 
--- src/ranges.rt:89:5
 loop-again : tie.Need-loop-again Inv-loop μ-loop
 unfolding everyUpTo
 loop-again c = (rw (add-one, c .figures-in-range .ensures, ← c .before .before .before .loop .inv .0), search needs)
 
--- src/ranges.rt:84:1
 returns : tie.Need-returns Inv-loop μ-loop
 returns c =
     let e : c .before .loop .s ≡ 8 = omega arith in rw e at (c .before .loop .inv .0)

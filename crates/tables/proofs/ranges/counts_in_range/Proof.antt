@@ -1,3 +1,4 @@
+-- `tables::ranges::counts_in_range` meets its contract. The loop carries what the definition gives up to the index, and each turn adds one more. Assumes nothing.
 use Prim.Native.Nat.{_-_, _≤_}
 use native.Mathlib.Omega.{arith}
 use native.Mathlib.Numerals.{add-one}
@@ -10,8 +11,6 @@ use Rattle.rules.specs.Limits.{countMost}
 use Rattle.tables.proofs.ranges.counts_in_range.Statement.{statement}
 use Rattle.rules.specs.Ranges.{countsInRange}
 use Rattle.tables.proofs.ranges.counts_in_range.Tie as tie
-use Rattle.tables.proofs.ranges.counts_in_range.Reads as reads
-use Rattle.tables.proofs.ranges.counts_in_range.Lts as lts
 
 abbrev Inv-loop : tie.InvT-loop
 Inv-loop sent ok₀ d₀ ok d = (ok ≡ everyUpTo (λ k. leb (getD sent k 0) countMost) d) × (d ≤ 8)
@@ -19,33 +18,26 @@ Inv-loop sent ok₀ d₀ ok d = (ok ≡ everyUpTo (λ k. leb (getD sent k 0) cou
 abbrev μ-loop : tie.MeasureT-loop
 μ-loop sent ok₀ d₀ ok d = 8 - d
 
--- src/ranges.rt:37:5
 loop-holds : tie.Need-loop-holds Inv-loop μ-loop
 unfolding everyUpTo
 loop-holds c = (refl, search needs)
 
--- src/ranges.rt:38:20
 mul-ok : tie.Need-mul-ok Inv-loop μ-loop
 mul-ok c = search needs
 
--- src/ranges.rt:38:20
 array-read-ok : tie.Need-array-read-ok Inv-loop μ-loop
 array-read-ok c = search needs
 
--- src/ranges.rt:39:9
 add-d : tie.Need-add-d Inv-loop μ-loop
 add-d c = search needs
 
--- src/ranges.rt:37:5
 loop-less : tie.Need-loop-less Inv-loop μ-loop
 loop-less c = search needs
 
--- src/ranges.rt:37:5
 loop-again : tie.Need-loop-again Inv-loop μ-loop
 unfolding everyUpTo
 loop-again c = (rw (add-one, ← c .before .loop .inv .0), search needs)
 
--- src/ranges.rt:32:1
 returns : tie.Need-returns Inv-loop μ-loop
 unfolding countsInRange
 returns c =

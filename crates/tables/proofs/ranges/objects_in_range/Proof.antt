@@ -1,3 +1,4 @@
+-- `tables::ranges::objects_in_range` meets its contract. The loop carries what the definition gives up to the index, and each turn adds one more. Assumes nothing.
 use Prim.Native.Nat.{_-_, _≤_}
 use native.Mathlib.Omega.{arith}
 use native.Mathlib.Numerals.{add-one}
@@ -9,9 +10,6 @@ use Rattle.rules.specs.Ranges.{objectInRange}
 use Rattle.rules.specs.Tables.{pastObject}
 use Rattle.tables.proofs.ranges.objects_in_range.Statement.{statement}
 use Rattle.tables.proofs.ranges.objects_in_range.Tie as tie
-use Rattle.tables.proofs.ranges.objects_in_range.Reads as reads
-use Rattle.tables.proofs.ranges.objects_in_range.Lts as lts
-use Rattle.tables.proofs.ranges.object_in_range.Reads as object-in-range-reads
 
 abbrev Inv-loop : tie.InvT-loop
 Inv-loop objects ok₀ i₀ ok i = (ok ≡ everyUpTo (λ k. objectInRange (getD objects k pastObject)) i) × (i ≤ 32)
@@ -19,37 +17,29 @@ Inv-loop objects ok₀ i₀ ok i = (ok ≡ everyUpTo (λ k. objectInRange (getD 
 abbrev μ-loop : tie.MeasureT-loop
 μ-loop objects ok₀ i₀ ok i = 32 - i
 
--- src/ranges.rt:182:5
 loop-holds : tie.Need-loop-holds Inv-loop μ-loop
 unfolding everyUpTo
 loop-holds c = (refl, search needs)
 
--- src/ranges.rt:183:35
 mul-object-in-range : tie.Need-mul-object-in-range Inv-loop μ-loop
 mul-object-in-range c = search needs
 
--- src/ranges.rt:183:35
 array-copy-out-object-in-range : tie.Need-array-copy-out-object-in-range Inv-loop μ-loop
 array-copy-out-object-in-range c = search needs
 
--- src/ranges.rt:183:19
 object-in-range-requires : tie.Need-object-in-range-requires Inv-loop μ-loop
 object-in-range-requires c κs = search needs
 
--- src/ranges.rt:184:9
 add-i : tie.Need-add-i Inv-loop μ-loop
 add-i c = search needs
 
--- src/ranges.rt:182:5
 loop-less : tie.Need-loop-less Inv-loop μ-loop
 loop-less c = search needs
 
--- src/ranges.rt:182:5
 loop-again : tie.Need-loop-again Inv-loop μ-loop
 unfolding everyUpTo
 loop-again c = (rw (add-one, c .object-in-range .ensures, ← c .before .before .before .loop .inv .0), search needs)
 
--- src/ranges.rt:177:1
 returns : tie.Need-returns Inv-loop μ-loop
 returns c =
     let e : c .before .loop .i ≡ 32 = omega arith in rw e at (c .before .loop .inv .0)

@@ -1,3 +1,4 @@
+-- `tables::ranges::passages_in_range` meets its contract. The loop carries what the definition gives up to the index, and each turn adds one more. Assumes nothing.
 use Prim.Native.Nat.{_-_, _≤_}
 use native.Mathlib.Omega.{arith}
 use native.Mathlib.Numerals.{add-one}
@@ -9,9 +10,6 @@ use Rattle.rules.specs.Ranges.{passageInRange}
 use Rattle.rules.specs.Tables.{pastPassage}
 use Rattle.tables.proofs.ranges.passages_in_range.Statement.{statement}
 use Rattle.tables.proofs.ranges.passages_in_range.Tie as tie
-use Rattle.tables.proofs.ranges.passages_in_range.Reads as reads
-use Rattle.tables.proofs.ranges.passages_in_range.Lts as lts
-use Rattle.tables.proofs.ranges.passage_in_range.Reads as passage-in-range-reads
 
 abbrev Inv-loop : tie.InvT-loop
 Inv-loop passages ok₀ i₀ ok i = (ok ≡ everyUpTo (λ k. passageInRange (getD passages k pastPassage)) i) × (i ≤ 16)
@@ -19,37 +17,29 @@ Inv-loop passages ok₀ i₀ ok i = (ok ≡ everyUpTo (λ k. passageInRange (get
 abbrev μ-loop : tie.MeasureT-loop
 μ-loop passages ok₀ i₀ ok i = 16 - i
 
--- src/ranges.rt:194:5
 loop-holds : tie.Need-loop-holds Inv-loop μ-loop
 unfolding everyUpTo
 loop-holds c = (refl, search needs)
 
--- src/ranges.rt:195:36
 mul-passage-in-range : tie.Need-mul-passage-in-range Inv-loop μ-loop
 mul-passage-in-range c = search needs
 
--- src/ranges.rt:195:36
 array-copy-out-passage-in-range : tie.Need-array-copy-out-passage-in-range Inv-loop μ-loop
 array-copy-out-passage-in-range c = search needs
 
--- src/ranges.rt:195:19
 passage-in-range-requires : tie.Need-passage-in-range-requires Inv-loop μ-loop
 passage-in-range-requires c κs = search needs
 
--- src/ranges.rt:196:9
 add-i : tie.Need-add-i Inv-loop μ-loop
 add-i c = search needs
 
--- src/ranges.rt:194:5
 loop-less : tie.Need-loop-less Inv-loop μ-loop
 loop-less c = search needs
 
--- src/ranges.rt:194:5
 loop-again : tie.Need-loop-again Inv-loop μ-loop
 unfolding everyUpTo
 loop-again c = (rw (add-one, c .passage-in-range .ensures, ← c .before .before .before .loop .inv .0), search needs)
 
--- src/ranges.rt:189:1
 returns : tie.Need-returns Inv-loop μ-loop
 returns c =
     let e : c .before .loop .i ≡ 16 = omega arith in rw e at (c .before .loop .inv .0)

@@ -1,3 +1,4 @@
+-- `tables::ranges::sites_in_range` meets its contract. The loop carries what the definition gives up to the index, and each turn adds one more. Assumes nothing.
 use Prim.Native.Nat.{_-_, _≤_}
 use native.Mathlib.Omega.{arith}
 use native.Mathlib.Numerals.{add-one}
@@ -9,9 +10,6 @@ use Rattle.rules.specs.Ranges.{siteInRange}
 use Rattle.rules.specs.Tables.{pastSite}
 use Rattle.tables.proofs.ranges.sites_in_range.Statement.{statement}
 use Rattle.tables.proofs.ranges.sites_in_range.Tie as tie
-use Rattle.tables.proofs.ranges.sites_in_range.Reads as reads
-use Rattle.tables.proofs.ranges.sites_in_range.Lts as lts
-use Rattle.tables.proofs.ranges.site_in_range.Reads as site-in-range-reads
 
 abbrev Inv-loop : tie.InvT-loop
 Inv-loop sites ok₀ i₀ ok i = (ok ≡ everyUpTo (λ k. siteInRange (getD sites k pastSite)) i) × (i ≤ 8)
@@ -19,37 +17,29 @@ Inv-loop sites ok₀ i₀ ok i = (ok ≡ everyUpTo (λ k. siteInRange (getD site
 abbrev μ-loop : tie.MeasureT-loop
 μ-loop sites ok₀ i₀ ok i = 8 - i
 
--- src/ranges.rt:170:5
 loop-holds : tie.Need-loop-holds Inv-loop μ-loop
 unfolding everyUpTo
 loop-holds c = (refl, search needs)
 
--- src/ranges.rt:171:33
 mul-site-in-range : tie.Need-mul-site-in-range Inv-loop μ-loop
 mul-site-in-range c = search needs
 
--- src/ranges.rt:171:33
 array-copy-out-site-in-range : tie.Need-array-copy-out-site-in-range Inv-loop μ-loop
 array-copy-out-site-in-range c = search needs
 
--- src/ranges.rt:171:19
 site-in-range-requires : tie.Need-site-in-range-requires Inv-loop μ-loop
 site-in-range-requires c κs = search needs
 
--- src/ranges.rt:172:9
 add-i : tie.Need-add-i Inv-loop μ-loop
 add-i c = search needs
 
--- src/ranges.rt:170:5
 loop-less : tie.Need-loop-less Inv-loop μ-loop
 loop-less c = search needs
 
--- src/ranges.rt:170:5
 loop-again : tie.Need-loop-again Inv-loop μ-loop
 unfolding everyUpTo
 loop-again c = (rw (add-one, c .site-in-range .ensures, ← c .before .before .before .loop .inv .0), search needs)
 
--- src/ranges.rt:165:1
 returns : tie.Need-returns Inv-loop μ-loop
 returns c =
     let e : c .before .loop .i ≡ 8 = omega arith in rw e at (c .before .loop .inv .0)

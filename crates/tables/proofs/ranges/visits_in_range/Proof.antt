@@ -1,3 +1,4 @@
+-- `tables::ranges::visits_in_range` meets its contract. The loop carries what the definition gives up to the index, and each turn adds one more. Assumes nothing.
 use Prim.Native.Nat.{_-_, _≤_}
 use native.Mathlib.Omega.{arith}
 use native.Mathlib.Numerals.{add-one}
@@ -9,9 +10,6 @@ use Rattle.rules.specs.Ranges.{visitInRange}
 use Rattle.rules.specs.Tables.{pastVisit}
 use Rattle.tables.proofs.ranges.visits_in_range.Statement.{statement}
 use Rattle.tables.proofs.ranges.visits_in_range.Tie as tie
-use Rattle.tables.proofs.ranges.visits_in_range.Reads as reads
-use Rattle.tables.proofs.ranges.visits_in_range.Lts as lts
-use Rattle.tables.proofs.ranges.visit_in_range.Reads as visit-in-range-reads
 
 abbrev Inv-loop : tie.InvT-loop
 Inv-loop visits ok₀ i₀ ok i = (ok ≡ everyUpTo (λ k. visitInRange (getD visits k pastVisit)) i) × (i ≤ 128)
@@ -19,37 +17,29 @@ Inv-loop visits ok₀ i₀ ok i = (ok ≡ everyUpTo (λ k. visitInRange (getD vi
 abbrev μ-loop : tie.MeasureT-loop
 μ-loop visits ok₀ i₀ ok i = 128 - i
 
--- src/ranges.rt:206:5
 loop-holds : tie.Need-loop-holds Inv-loop μ-loop
 unfolding everyUpTo
 loop-holds c = (refl, search needs)
 
--- src/ranges.rt:207:34
 mul-visit-in-range : tie.Need-mul-visit-in-range Inv-loop μ-loop
 mul-visit-in-range c = search needs
 
--- src/ranges.rt:207:34
 array-copy-out-visit-in-range : tie.Need-array-copy-out-visit-in-range Inv-loop μ-loop
 array-copy-out-visit-in-range c = search needs
 
--- src/ranges.rt:207:19
 visit-in-range-requires : tie.Need-visit-in-range-requires Inv-loop μ-loop
 visit-in-range-requires c κs = search needs
 
--- src/ranges.rt:208:9
 add-i : tie.Need-add-i Inv-loop μ-loop
 add-i c = search needs
 
--- src/ranges.rt:206:5
 loop-less : tie.Need-loop-less Inv-loop μ-loop
 loop-less c = search needs
 
--- src/ranges.rt:206:5
 loop-again : tie.Need-loop-again Inv-loop μ-loop
 unfolding everyUpTo
 loop-again c = (rw (add-one, c .visit-in-range .ensures, ← c .before .before .before .loop .inv .0), search needs)
 
--- src/ranges.rt:201:1
 returns : tie.Need-returns Inv-loop μ-loop
 returns c =
     let e : c .before .loop .i ≡ 128 = omega arith in rw e at (c .before .loop .inv .0)
