@@ -5,23 +5,23 @@ use rules::steps::Step;
 ghost use Prim.Native.Nat.{_+_, _≤_, _<_};
 
 // The mark of a sheet.
-pub const PASS: [u8; 4] = [b'P', b'A', b'S', b'S'];
+pub(crate) const PASS: [u8; 4] = [b'P', b'A', b'S', b'S'];
 
 // A sheet that was made: its length in bytes, and what to print of its listing.
 // First the refusal numbers of so many last lines in one line, then so many last lines.
-pub struct Case {
-    pub length: usize,
-    pub numbers: usize,
-    pub lines: usize,
+pub(crate) struct Case {
+    pub(crate) length: usize,
+    pub(crate) numbers: usize,
+    pub(crate) lines: usize,
 }
 
 // A label, as a line.
-pub fn say(label: &[u8]) {
+pub(crate) fn say(label: &[u8]) {
     io::write_all(STDOUT_FILENO, label);
     io::write_all(STDOUT_FILENO, b"\n");
 }
 
-pub fn put_record(sheet: &mut [u8; 65537], at: usize, bytes: [u8; 16])
+pub(crate) fn put_record(sheet: &mut [u8; 65537], at: usize, bytes: [u8; 16])
     requires { ⌜ at + 16 ≤ 65537 ⌝ }
 {
     let mut i: usize = 0;
@@ -32,13 +32,13 @@ pub fn put_record(sheet: &mut [u8; 65537], at: usize, bytes: [u8; 16])
 }
 
 // A step as record i, from 0, of a sheet with no heading.
-pub fn put_step(sheet: &mut [u8; 65537], i: usize, step: Step)
+pub(crate) fn put_step(sheet: &mut [u8; 65537], i: usize, step: Step)
     requires { ⌜ i < 4096 ⌝ }
 {
     put_record(sheet, 16 * i, write_record(step));
 }
 
-pub fn put_distance(sheet: &mut [u8; 65537], at: usize, distance: u32)
+pub(crate) fn put_distance(sheet: &mut [u8; 65537], at: usize, distance: u32)
     requires { ⌜ at + 4 ≤ 65537 ⌝ }
 {
     sheet[at] = (distance % 256) as u8;
@@ -47,7 +47,7 @@ pub fn put_distance(sheet: &mut [u8; 65537], at: usize, distance: u32)
     sheet[at + 3] = (distance / 16777216) as u8;
 }
 
-pub fn put_mark(sheet: &mut [u8; 65537], at: usize, mark: [u8; 4])
+pub(crate) fn put_mark(sheet: &mut [u8; 65537], at: usize, mark: [u8; 4])
     requires { ⌜ at + 4 ≤ 65537 ⌝ }
 {
     sheet[at] = mark[0];
@@ -57,7 +57,7 @@ pub fn put_mark(sheet: &mut [u8; 65537], at: usize, mark: [u8; 4])
 }
 
 // A trailer behind the first `at` bytes. All lines of the listing are printed.
-pub fn with_trailer(sheet: &mut [u8; 65537], at: usize, distance: u32, mark: [u8; 4]) -> Case
+pub(crate) fn with_trailer(sheet: &mut [u8; 65537], at: usize, distance: u32, mark: [u8; 4]) -> Case
     requires { ⌜ at + 8 ≤ 65537 ⌝ }
     ensures { λ r. ⌜ r .length ≤ 65537 ⌝ }
 {
@@ -71,7 +71,7 @@ pub fn with_trailer(sheet: &mut [u8; 65537], at: usize, distance: u32, mark: [u8
 }
 
 // A sheet of n records with no heading, of which the last lines are printed.
-pub fn of_records(sheet: &mut [u8; 65537], n: usize, lines: usize) -> Case
+pub(crate) fn of_records(sheet: &mut [u8; 65537], n: usize, lines: usize) -> Case
     requires { ⌜ n < 4096 ⌝ }
     ensures { λ r. ⌜ r .length ≤ 65537 ⌝ }
 {

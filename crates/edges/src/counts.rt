@@ -11,7 +11,7 @@ use crate::steps::write;
 use rules::steps::Step;
 ghost use Prim.Native.Nat.{_≤_};
 
-pub fn widest_write(sheet: &mut [u8; 65537]) -> Case
+pub(crate) fn widest_write(sheet: &mut [u8; 65537]) -> Case
     ensures { λ r. ⌜ r .length ≤ 65537 ⌝ }
 {
     say(b"write 1,000,001, then 1,000,000");
@@ -37,7 +37,7 @@ fn put_thousand(sheet: &mut [u8; 65537], first: usize, call: Step, after: Step)
 }
 
 // Each call is dropped, so that no site receives one.
-pub fn calls_sent(sheet: &mut [u8; 65537]) -> Case
+pub(crate) fn calls_sent(sheet: &mut [u8; 65537]) -> Case
     ensures { λ r. ⌜ r .length ≤ 65537 ⌝ }
 {
     say(b"call 1,000 and 1,001 sent to one site, last lines");
@@ -49,7 +49,7 @@ pub fn calls_sent(sheet: &mut [u8; 65537]) -> Case
 }
 
 // Two visits of one passage call site 2, so that neither sends it more than a thousand calls.
-pub fn calls_received(sheet: &mut [u8; 65537]) -> Case
+pub(crate) fn calls_received(sheet: &mut [u8; 65537]) -> Case
     ensures { λ r. ⌜ r .length ≤ 65537 ⌝ }
 {
     say(b"call 1,000 and 1,001 received at one site, last lines");
@@ -65,7 +65,7 @@ pub fn calls_received(sheet: &mut [u8; 65537]) -> Case
 }
 
 // The call that finds no slot, then slot 5 emptied and used again, then the last slot and the one past it.
-pub fn messages(sheet: &mut [u8; 65537]) -> Case
+pub(crate) fn messages(sheet: &mut [u8; 65537]) -> Case
     ensures { λ r. ⌜ r .length ≤ 65537 ⌝ }
 {
     say(b"message 32 and 33, last lines");

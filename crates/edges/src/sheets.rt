@@ -87,7 +87,7 @@ fn unknown_codes(sheet: &mut [u8; 65537]) -> Case
 }
 
 // The first seventeen cases.
-pub fn make(sheet: &mut [u8; 65537], case: usize) -> Case
+pub(crate) fn make(sheet: &mut [u8; 65537], case: usize) -> Case
     ensures { λ r. ⌜ r .length ≤ 65537 ⌝ }
 {
     match case {

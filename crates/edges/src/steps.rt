@@ -2,11 +2,11 @@
 use rules::steps::Step;
 
 // Site 0 by n.
-pub fn tick(n: u32) -> Step {
+pub(crate) fn tick(n: u32) -> Step {
     Step::Tick { site: 0, n: n }
 }
 
-pub fn begin(home: u8, slot: u8, quiesce: u32, release: u32) -> Step {
+pub(crate) fn begin(home: u8, slot: u8, quiesce: u32, release: u32) -> Step {
     Step::Begin {
         home: home,
         slot: slot,
@@ -15,7 +15,7 @@ pub fn begin(home: u8, slot: u8, quiesce: u32, release: u32) -> Step {
     }
 }
 
-pub fn read(handle: u16, site: u8, object: u8) -> Step {
+pub(crate) fn read(handle: u16, site: u8, object: u8) -> Step {
     Step::Invoke {
         handle: handle,
         site: site,
@@ -26,7 +26,7 @@ pub fn read(handle: u16, site: u8, object: u8) -> Step {
 }
 
 // From site 0, in the name of passage 0.
-pub fn write(object: u8, value: u32) -> Step {
+pub(crate) fn write(object: u8, value: u32) -> Step {
     Step::Invoke {
         handle: 0,
         site: 0,
@@ -36,7 +36,7 @@ pub fn write(object: u8, value: u32) -> Step {
     }
 }
 
-pub fn refresh(handle: u16) -> Step {
+pub(crate) fn refresh(handle: u16) -> Step {
     Step::Refresh {
         handle: handle,
         quiesce: 1100,
@@ -44,10 +44,10 @@ pub fn refresh(handle: u16) -> Step {
     }
 }
 
-pub fn deliver(message: u8) -> Step {
+pub(crate) fn deliver(message: u8) -> Step {
     Step::Deliver { message: message }
 }
 
-pub fn drop(message: u8) -> Step {
+pub(crate) fn drop(message: u8) -> Step {
     Step::Drop { message: message }
 }

@@ -43,7 +43,7 @@ fn put_prelude(sheet: &mut [u8; 65537]) {
     put_step(sheet, 18, Step::Crash { site: 7 });
 }
 
-pub fn prelude(sheet: &mut [u8; 65537]) -> Case
+pub(crate) fn prelude(sheet: &mut [u8; 65537]) -> Case
     ensures { λ r. ⌜ r .length ≤ 65537 ⌝ }
 {
     say(b"tables for the unnamed fields");
@@ -108,7 +108,7 @@ fn put_odd(sheet: &mut [u8; 65537], n: usize, right: [u8; 16], i: usize, named: 
 }
 
 // After the prelude: the code's step with each unnamed byte set in turn, and at last the step itself.
-pub fn each_byte(sheet: &mut [u8; 65537], code: usize) -> Case
+pub(crate) fn each_byte(sheet: &mut [u8; 65537], code: usize) -> Case
     ensures { λ r. ⌜ r .length ≤ 65537 ⌝ }
 {
     say_code(code);
