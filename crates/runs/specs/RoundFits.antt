@@ -1,0 +1,463 @@
+-- Steps of a round keep the invariant: refresh, terminate, prepare, ask, tell. Assumes nothing.
+use Prim.Native.Nat.{ℕ, _+_, _%_, _<_, _≤_}
+use native.Mathlib.Omega.{arith}
+use mathlib.Core.Path.{_≡_, refl, sym, ap, _∙_, subst}
+use mathlib.Core.Logic.{_≢_, ⊎-elim, _⊎_, inl, inr}
+use mathlib.Core.Bool.{Bool, true, false, cond, not, _&&_, _||_, true≢false, false≢true}
+use lib.Dec.{eqb, leb, ltb}
+use borrow.Author.Tests.{eqb-false}
+use Rattle.rules.specs.LoopsLaws.{either, or-left, or-right, not-false, and-left, and-right}
+use Rattle.rules.specs.Tables.{siteAt, passageAt, visitAt, messageAt}
+use Rattle.rules.specs.AnswersLaws.{Fine}
+use Rattle.rules.specs.Checks.{badSite, badHandle, badTimes, noPassage, visitMissing}
+use Rattle.rules.specs.Parts.{isFree, isEmpty, isOver, isActive, isRunning, isAborted, isPhaseOne, isPhaseTwo, nextClock, hasAnswered, plainMessage, askedOf, askedVisit, askedStatus}
+use Rattle.rules.specs.Rounds.{openChecks, openedVisit, openedPassage, openDone, askChecks, askBody, sentOut, askDone, tellChecks, tellBody, tellDone}
+use Rattle.rules.specs.Machine.{looksHome, lookOf, placesOf, seenOf}
+use Rattle.rules.specs.RangesLaws.{placed-places, in-range-places}
+use Rattle.rules.specs.Ranges.{inRange, passageInRange, roundInRange, phaseFits}
+use Rattle.rules.specs.RangesFits.{PassageFits, RoundFits, SeenFits, seen-says}
+use Rattle.rules.specs.RangesLaws.{seen-in-range}
+use Rattle.runs.specs.Types.{Site, Kind, Status, Phase, Passage, Visit, Asked, Body, Message, Tables, Step, Look, Places, Seen}
+use Rattle.rules.specs.declared.answers.MailAt.{MailAt}
+use Rattle.runs.specs.Put.{put, put-same, put-back}
+use Rattle.runs.specs.View.{View, Ledger, mailOf, viewOf, noLedger, noted}
+use Rattle.runs.specs.Clauses.{isRefresh, isBinding, Holds}
+use Rattle.runs.specs.OpenKept.{opened-kept}
+use Rattle.runs.specs.MailKept.{withMail, ask-kept, tell-kept}
+use Rattle.runs.specs.VisitKept.{withLast}
+use Rattle.runs.specs.TimesKept.{AskedSays, asked-says}
+use Rattle.runs.specs.Store.{nextLedger, leftView, Own, own-mail, empty-mail, Fitting, noted-there, noted-same}
+use Rattle.runs.specs.Fits.{moved, moved-kept, news-kept, mail-back, visit-back, not-free}
+use Rattle.runs.specs.LifeFits.{site-says, times-say}
+
+-- ---- opening a round
+
+-- what the three kinds ask of the status that they meet
+pub record Opening (kind : Kind) (s : Status) : Type 0 where
+  pub used : askedStatus (askedOf kind) s ≢ Status.Free
+  pub times : (q r : ℕ) → kind ≡ Kind.Refresh q r → q ≤ r
+  pub fits : (isOver s ≡ false) ⊎ ((askedStatus (askedOf kind) s ≡ s) × (kind ≡ Kind.Terminate))
+  pub aborted : kind ≡ Kind.Terminate → askedStatus (askedOf kind) s ≡ Status.Aborted
+
+-- at home itself
+open-home :
+    (w : View) (l : Ledger) (k c source : ℕ) (kind : Kind) → Holds w l → w .clock (w .passage .home) ≤ c
+    → w .visit (w .passage .home) .there ≡ true → Opening kind (w .passage .status)
+    → Holds
+    (leftView
+    w
+    (w .passage .home)
+    k
+    (openedPassage kind (w .passage) (askedVisit (askedOf kind) (w .passage .round .number + 1) c (w .visit (w .passage .home))))
+    (askedVisit (askedOf kind) (w .passage .round .number + 1) c (w .visit (w .passage .home)))
+    c
+    (w .mail k))
+    (noted l (w .passage .home) source (askedVisit (askedOf kind) (w .passage .round .number + 1) c (w .visit (w .passage .home))))
+open-home w l k c source kind h i there o =
+    mail-back
+    w
+    (w .passage .home)
+    k
+    c
+    _
+    _
+    (w .mail k)
+    _
+    refl
+    (subst
+    (λ (d : ℕ).
+    Holds
+    (record {
+      passage =
+          openedPassage kind (w .passage) (askedVisit (askedOf kind) (w .passage .round .number + 1) d (w .visit (w .passage .home)));
+      visit =
+          put (w .visit) (w .passage .home) (askedVisit (askedOf kind) (w .passage .round .number + 1) d (w .visit (w .passage .home)));
+      clock = put (w .clock) (w .passage .home) c;
+      mail = w .mail;
+    })
+    (noted l (w .passage .home) source (askedVisit (askedOf kind) (w .passage .round .number + 1) d (w .visit (w .passage .home)))))
+    (put-same (w .clock) (w .passage .home) c)
+    (rw
+    (noted-there
+    l
+    (w .passage .home)
+    source
+    (askedVisit
+    (askedOf kind)
+    (w .passage .round .number + 1)
+    (put (w .clock) (w .passage .home) c (w .passage .home))
+    (w .visit (w .passage .home)))
+    (asked-says (askedOf kind) _ _ (w .visit (w .passage .home)) .there ∙ there)
+    (h .mirror (w .passage .home) there .0))
+    (opened-kept
+    (moved w (w .passage .home) c)
+    l
+    kind
+    (moved-kept w l (w .passage .home) c h i)
+    there
+    (o .used)
+    (o .times)
+    (o .fits)
+    (o .aborted))))
+
+-- at the acting site, which is home
+open-left :
+    (w : View) (l : Ledger) (a k source : ℕ) (clock : ℕ → ℕ) (kind : Kind) → Holds w l → w .clock a ≤ clock a
+    → a ≡ w .passage .home → w .visit a .there ≡ true → Opening kind (w .passage .status)
+    → Holds
+    (leftView
+    w
+    a
+    k
+    (openedPassage kind (w .passage) (askedVisit (askedOf kind) (w .passage .round .number + 1) (clock a) (w .visit a)))
+    (askedVisit (askedOf kind) (w .passage .round .number + 1) (clock a) (w .visit a))
+    (clock a)
+    (w .mail k))
+    (noted l a source (askedVisit (askedOf kind) (w .passage .round .number + 1) (clock a) (w .visit a)))
+open-left w l a k source clock kind h i e there o =
+    subst
+    (λ (x : ℕ).
+    Holds
+    (leftView
+    w
+    x
+    k
+    (openedPassage kind (w .passage) (askedVisit (askedOf kind) (w .passage .round .number + 1) (clock x) (w .visit x)))
+    (askedVisit (askedOf kind) (w .passage .round .number + 1) (clock x) (w .visit x))
+    (clock x)
+    (w .mail k))
+    (noted l x source (askedVisit (askedOf kind) (w .passage .round .number + 1) (clock x) (w .visit x))))
+    (sym e)
+    (open-home
+    w
+    l
+    k
+    (clock (w .passage .home))
+    source
+    kind
+    h
+    (subst (λ (x : ℕ). w .clock x ≤ clock x) e i)
+    (subst (λ (x : ℕ). w .visit x .there ≡ true) e there)
+    o)
+
+pub open-fits :
+    (t : Tables) (h : ℕ) (kind : Kind) (bad wrong : Bool)
+    → Fine (openChecks h bad wrong (seenOf t (placesOf t (looksHome MailAt.Nowhere h))))
+    → Opening kind (passageAt t (h % 16) .status)
+    → Fitting
+    t
+    (placesOf t (looksHome MailAt.Nowhere h))
+    (openDone h kind bad wrong (seenOf t (placesOf t (looksHome MailAt.Nowhere h))) .left)
+unfolding placesOf
+open-fits t h kind bad wrong (x₁, (x₂, (x₃, (x₄, (missing, rest))))) o =
+    record {
+      clock = omega arith;
+      mail = inl refl;
+      own =
+          λ l y.
+          news-kept
+          _
+          _
+          _
+          refl
+          (open-left
+          (viewOf t (h % 16))
+          l
+          (passageAt t (h % 16) .home % 8)
+          0
+          (messageAt t 0 .source)
+          (λ s. nextClock (siteAt t s))
+          kind
+          y
+          (omega arith)
+          (let i : passageAt t (h % 16) .home < 8 = y .passage .home in omega arith)
+          (not-false _ missing)
+          o);
+    }
+
+-- ---- what each kind's own check gives
+
+refresh-opens : (s : Status) (q r : ℕ) → q ≤ r → isActive s ≡ true → Opening (Kind.Refresh q r) s
+refresh-opens Status.Active q r i e =
+    record {
+      used = not-free Status.Active refl;
+      times = λ x y z. same x y z;
+      fits = inl refl;
+      aborted = λ z. absurd (true≢false (ap isRefresh z));
+    }
+  where
+    qOf : Kind → ℕ
+    qOf Kind.None = 0
+    qOf (Kind.Refresh x y) = x
+    qOf Kind.Terminate = 0
+    qOf Kind.Prepare = 0
+
+    rOf : Kind → ℕ
+    rOf Kind.None = 0
+    rOf (Kind.Refresh x y) = y
+    rOf Kind.Terminate = 0
+    rOf Kind.Prepare = 0
+
+    same : (x y : ℕ) → Kind.Refresh q r ≡ Kind.Refresh x y → x ≤ y
+    same x y z = let a : q ≡ x = ap qOf z in let b : r ≡ y = ap rOf z in omega arith
+refresh-opens Status.Free q r i e = absurd (false≢true e)
+refresh-opens Status.Committing q r i e = absurd (false≢true e)
+refresh-opens Status.Aborted q r i e = absurd (false≢true e)
+refresh-opens Status.Committed q r i e = absurd (false≢true e)
+
+terminate-opens : (s : Status) → isAborted s ≡ true → Opening Kind.Terminate s
+terminate-opens Status.Aborted e =
+    record {
+      used = not-free Status.Aborted refl;
+      times = λ q r z. absurd (false≢true (ap isRefresh z));
+      fits = inr (refl, refl);
+      aborted = λ z. refl;
+    }
+terminate-opens Status.Free e = absurd (false≢true e)
+terminate-opens Status.Active e = absurd (false≢true e)
+terminate-opens Status.Committing e = absurd (false≢true e)
+terminate-opens Status.Committed e = absurd (false≢true e)
+
+running-over : (s : Status) → isRunning s ≡ true → isOver s ≡ false
+running-over Status.Free e = refl
+running-over Status.Active e = refl
+running-over Status.Committing e = refl
+running-over Status.Aborted e = absurd (false≢true e)
+running-over Status.Committed e = absurd (false≢true e)
+
+prepare-opens : (s : Status) → isRunning s ≡ true → Opening Kind.Prepare s
+prepare-opens s e =
+    record {
+      used = not-free Status.Committing refl;
+      times = λ q r z. absurd (false≢true (ap isRefresh z));
+      fits = inl (running-over s e);
+      aborted = λ z. absurd (true≢false (ap isPrepare z));
+    }
+  where
+    isPrepare : Kind → Bool
+    isPrepare Kind.None = false
+    isPrepare (Kind.Refresh q r) = false
+    isPrepare Kind.Terminate = false
+    isPrepare Kind.Prepare = true
+
+pub refresh-fits :
+    (t : Tables) (h q r : ℕ)
+    → Fine
+    (openChecks
+    h
+    (badHandle h || badTimes q r)
+    (not (isActive (seenOf t (placesOf t (looksHome MailAt.Nowhere h)) .passage .status)))
+    (seenOf t (placesOf t (looksHome MailAt.Nowhere h))))
+    → Fitting
+    t
+    (placesOf t (looksHome MailAt.Nowhere h))
+    (openDone
+    h
+    (Kind.Refresh q r)
+    (badHandle h || badTimes q r)
+    (not (isActive (seenOf t (placesOf t (looksHome MailAt.Nowhere h)) .passage .status)))
+    (seenOf t (placesOf t (looksHome MailAt.Nowhere h)))
+    .left)
+unfolding placesOf
+refresh-fits t h q r f =
+    open-fits
+    t
+    h
+    (Kind.Refresh q r)
+    _
+    _
+    f
+    (refresh-opens (passageAt t (h % 16) .status) q r (times-say q r (or-right (badHandle h) _ (f .0))) (not-false _ (f .1 .1 .1 .0)))
+
+pub terminate-fits :
+    (t : Tables) (h : ℕ)
+    → Fine
+    (openChecks
+    h
+    (badHandle h)
+    (not (isAborted (seenOf t (placesOf t (looksHome MailAt.Nowhere h)) .passage .status)))
+    (seenOf t (placesOf t (looksHome MailAt.Nowhere h))))
+    → Fitting
+    t
+    (placesOf t (looksHome MailAt.Nowhere h))
+    (openDone
+    h
+    Kind.Terminate
+    (badHandle h)
+    (not (isAborted (seenOf t (placesOf t (looksHome MailAt.Nowhere h)) .passage .status)))
+    (seenOf t (placesOf t (looksHome MailAt.Nowhere h)))
+    .left)
+unfolding placesOf
+terminate-fits t h f =
+    open-fits t h Kind.Terminate _ _ f (terminate-opens (passageAt t (h % 16) .status) (not-false _ (f .1 .1 .1 .0)))
+
+pub prepare-fits :
+    (t : Tables) (h : ℕ)
+    → Fine
+    (openChecks
+    h
+    (badHandle h)
+    (not (isRunning (seenOf t (placesOf t (looksHome MailAt.Nowhere h)) .passage .status)))
+    (seenOf t (placesOf t (looksHome MailAt.Nowhere h))))
+    → Fitting
+    t
+    (placesOf t (looksHome MailAt.Nowhere h))
+    (openDone
+    h
+    Kind.Prepare
+    (badHandle h)
+    (not (isRunning (seenOf t (placesOf t (looksHome MailAt.Nowhere h)) .passage .status)))
+    (seenOf t (placesOf t (looksHome MailAt.Nowhere h)))
+    .left)
+unfolding placesOf
+prepare-fits t h f =
+    open-fits t h Kind.Prepare _ _ f (prepare-opens (passageAt t (h % 16) .status) (not-false _ (f .1 .1 .1 .0)))
+
+-- ---- ask and tell: a message from home into an empty slot
+
+-- the slot was empty, and the message is of the passage
+pub sent-fits :
+    (t : Tables) (at : Places) (body : Body) (h site clock : ℕ) → siteAt t (at .site) .clock ≤ clock
+    → isEmpty (messageAt t (at .message) .body) ≡ true → isEmpty body ≡ false → h % 16 ≡ at .slot
+    → ((l : Ledger) → Holds (viewOf t (at .slot)) l → Holds (moved (viewOf t (at .slot)) (at .site) clock) l
+    → Holds (withMail (moved (viewOf t (at .slot)) (at .site) clock) (at .message) (plainMessage body (passageAt t (at .slot) .home) site h clock)) l)
+    → Fitting t at (sentOut body h site clock (seenOf t at))
+sent-fits t at body h site clock i empty full slot law =
+    record {
+      clock = i;
+      mail = inr (inl empty, inr slot);
+      own =
+          λ l y.
+          news-kept
+          _
+          _
+          _
+          (noted-same (viewOf t (at .slot)) l (at .site) (messageAt t (at .message) .source) y)
+          (visit-back
+          (viewOf t (at .slot))
+          (at .site)
+          (at .message)
+          clock
+          (passageAt t (at .slot))
+          (visitAt t (at .site) (at .slot))
+          _
+          l
+          refl
+          (rw
+          (own-mail (at .slot) (plainMessage body (passageAt t (at .slot) .home) site h clock) full slot)
+          (law l y (moved-kept (viewOf t (at .slot)) l (at .site) clock y i))));
+    }
+
+pub ask-fits :
+    (t : Tables) (h site place : ℕ) → Fine (askChecks h site (seenOf t (placesOf t (lookOf (Step.Ask h site)))))
+    → Fitting
+    t
+    (placesOf t (lookOf (Step.Ask h site)))
+    (askDone h site place (seenOf t (placesOf t (lookOf (Step.Ask h site)))) .left)
+unfolding placesOf
+ask-fits t h site place (bad, (there, (down, (wrong, (full, (taken, rest)))))) =
+    sent-fits
+    t
+    (placesOf t (lookOf (Step.Ask h site)))
+    _
+    h
+    site
+    _
+    (omega arith)
+    (not-false _ taken)
+    refl
+    refl
+    (λ l y z.
+    ask-kept
+    _
+    l
+    _
+    site
+    h
+    _
+    z
+    (not-free _ (or-left (isFree (passageAt t (h % 16) .status)) _ there))
+    (placed-places t (lookOf (Step.Ask h site)) .message)
+    (site-says site (or-right (badHandle h) _ bad))
+    (eqb-false _ _ (or-right (not (isPhaseOne (passageAt t (h % 16) .round .phase))) _ wrong)))
+
+-- a round in phase 2 has a kind
+two-kind : (k : Kind) (p : Phase) → phaseFits k p ≡ true → p ≡ Phase.Two → k ≢ Kind.None
+two-kind k p f e n = false≢true (rw (n, e) at f)
+
+two-says : (p : Phase) → isPhaseTwo p ≡ true → p ≡ Phase.Two
+two-says Phase.None e = absurd (false≢true e)
+two-says Phase.One e = absurd (false≢true e)
+two-says Phase.Two e = refl
+
+pub tell-fits :
+    (t : Tables) (h site place : ℕ) → inRange t ≡ true
+    → Fine (tellChecks h site (seenOf t (placesOf t (lookOf (Step.Tell h site)))))
+    → Fitting
+    t
+    (placesOf t (lookOf (Step.Tell h site)))
+    (tellDone h site place (seenOf t (placesOf t (lookOf (Step.Tell h site)))) .left)
+unfolding placesOf
+tell-fits t h site place range (bad, (there, (down, (wrong, (full, (taken, rest)))))) =
+    sent-fits
+    t
+    (placesOf t (lookOf (Step.Tell h site)))
+    _
+    h
+    site
+    _
+    (omega arith)
+    (not-false _ taken)
+    refl
+    refl
+    (λ l y z.
+    tell-kept
+    _
+    l
+    _
+    site
+    h
+    _
+    z
+    (not-free _ (or-left (isFree (passageAt t (h % 16) .status)) _ there))
+    (placed-places t (lookOf (Step.Tell h site)) .message)
+    s<8
+    (eqb-false _ _ (or-right (not (isPhaseTwo (passageAt t (h % 16) .round .phase)) || not (hasAnswered (passageAt t (h % 16) .round) (site % 8))) _ wrong))
+    two
+    (subst (λ (x : ℕ). hasAnswered (passageAt t (h % 16) .round) x ≡ true) s%8 answered)
+    (two-kind _ _ fits two))
+  where
+    s<8 : site < 8
+    s<8 = site-says site (or-right (badHandle h) _ bad)
+
+    s%8 : site % 8 ≡ site
+    s%8 = let i : site < 8 = s<8 in omega arith
+
+    two : passageAt t (h % 16) .round .phase ≡ Phase.Two
+    two =
+        two-says
+        _
+        (not-false
+        _
+        (or-left
+        (not (isPhaseTwo (passageAt t (h % 16) .round .phase)))
+        _
+        (or-left (not (isPhaseTwo (passageAt t (h % 16) .round .phase)) || not (hasAnswered (passageAt t (h % 16) .round) (site % 8))) _ wrong)))
+
+    answered : hasAnswered (passageAt t (h % 16) .round) (site % 8) ≡ true
+    answered =
+        not-false
+        _
+        (or-right
+        (not (isPhaseTwo (passageAt t (h % 16) .round .phase)))
+        _
+        (or-left (not (isPhaseTwo (passageAt t (h % 16) .round .phase)) || not (hasAnswered (passageAt t (h % 16) .round) (site % 8))) _ wrong))
+
+    fits : phaseFits (passageAt t (h % 16) .round .kind) (passageAt t (h % 16) .round .phase) ≡ true
+    fits =
+        seen-says
+        (seenOf t (placesOf t (lookOf (Step.Tell h site))))
+        (seen-in-range t (placesOf t (lookOf (Step.Tell h site))) range (placed-places t (lookOf (Step.Tell h site))))
+        .passage
+        .round
+        .phase

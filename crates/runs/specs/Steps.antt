@@ -1,0 +1,151 @@
+-- How an invariant over runs is shown: by every accepted step's own store, and by each slot of a sweep or a crash.
+-- A ghost may be carried along the run; it is no part of the machine. Assumes nothing.
+use Prim.Native.Nat.{ℕ, zero, suc, _<_, _≤_}
+use native.Mathlib.Omega.{arith}
+use mathlib.Core.Path.{_≡_, refl, sym, ap, _∙_, subst}
+use mathlib.Core.Logic.{⊎-elim, _⊎_, inl, inr}
+use mathlib.Core.Bool.{Bool, true, false, cond, true≢false, false≢true}
+use mathlib.Core.List.{List, [], _∷_}
+use Rattle.rules.specs.LoopsLaws.{either}
+use Rattle.rules.specs.Tables.{start}
+use Rattle.rules.specs.Answers.{isAccepted}
+use Rattle.rules.specs.Ranges.{inRange}
+use Rattle.rules.specs.Machine.{lookOf, headOf, turnOf, turnsUpTo, turnCount, stepInRangeOf, refusedAll, stepOf}
+use Rattle.rules.specs.RefusedLaws.{refused-leaves, turns-keep, record-is-step}
+use Rattle.rules.specs.Record.{stepOfRecord, readingOf, recordInRangeOf, stepRecordOf}
+use Rattle.rules.specs.Runs.{runOf, runRecordsOf}
+use Rattle.runs.specs.Types.{Tables, Step, Answer, Outcome}
+use Rattle.rules.specs.declared.answers.Trip.{Trip}
+use Rattle.rules.specs.declared.steps.Reading.{Reading}
+
+-- ---- a ghost along a run: what an accepted step's own store does to it, and what each slot's turn does
+
+module _ {G : Type 0} (head : Tables → Step → G → G) (turn : Trip → ℕ → Tables → G → G) where
+  unfoldable pub ghostTurns : Trip → Outcome → ℕ → G → G
+  ghostTurns trip o zero g = g
+  ghostTurns trip o (suc n) g = turn trip n (turnsUpTo trip o n .tables) (ghostTurns trip o n g)
+
+  -- a refused step does nothing to it
+  unfoldable pub ghostStep : Tables → Step → G → G
+  ghostStep t step g =
+      cond
+      (isAccepted (stepOf t step .answer))
+      (ghostTurns (lookOf step .trip) (headOf t step) (turnCount (lookOf step .trip) (headOf t step .answer)) (head t step g))
+      g
+
+  pub ghost-refused : (t : Tables) (step : Step) (g : G) → isAccepted (stepOf t step .answer) ≡ false → ghostStep t step g ≡ g
+  unfolding ghostStep
+  ghost-refused t step g e = rw e
+
+  pub ghost-accepted :
+      (t : Tables) (step : Step) (g : G) → isAccepted (stepOf t step .answer) ≡ true
+      → ghostStep t step g
+      ≡ ghostTurns (lookOf step .trip) (headOf t step) (turnCount (lookOf step .trip) (headOf t step .answer)) (head t step g)
+  unfolding ghostStep
+  ghost-accepted t step g e = rw e
+
+  unfoldable pub ghostRun : Tables → List Step → G → G
+  ghostRun t [] g = g
+  ghostRun t (s ∷ ss) g = ghostRun (stepOf t s .tables) ss (ghostStep t s g)
+
+turn-count-most : (trip : Trip) (a : Answer) → turnCount trip a ≤ 16
+turn-count-most Trip.Nowhere a = omega arith
+turn-count-most (Trip.Sweep site) a = most (isAccepted a)
+  where
+    most : (b : Bool) → cond b 16 0 ≤ 16
+    most true = omega arith
+    most false = omega arith
+turn-count-most (Trip.Crash site) a = most (isAccepted a)
+  where
+    most : (b : Bool) → cond b 16 0 ≤ 16
+    most true = omega arith
+    most false = omega arith
+
+-- ---- an invariant that every accepted store keeps is kept by every step and in every run
+
+module _ {G : Type 0} (head : Tables → Step → G → G) (turn : Trip → ℕ → Tables → G → G) (Good : Tables → G → Type 0)
+    (head-keeps :
+    (t : Tables) (step : Step) (g : G) → Good t g → isAccepted (headOf t step .answer) ≡ true
+    → Good (headOf t step .tables) (head t step g))
+    (turn-keeps :
+    (trip : Trip) (slot : ℕ) (o : Outcome) (g : G) → slot < 16 → Good (o .tables) g
+    → Good (turnOf trip slot o .tables) (turn trip slot (o .tables) g)) where
+  turns-good :
+      (trip : Trip) (o : Outcome) (n : ℕ) (g : G) → n ≤ 16 → Good (o .tables) g
+      → Good (turnsUpTo trip o n .tables) (ghostTurns head turn trip o n g)
+  unfolding turnsUpTo ghostTurns
+  turns-good trip o zero g i k = k
+  turns-good trip o (suc n) g i k =
+      turn-keeps trip n (turnsUpTo trip o n) (ghostTurns head turn trip o n g) i (turns-good trip o n g (omega arith) k)
+
+  accepted-good :
+      (t : Tables) (step : Step) (g : G) → Good t g → isAccepted (stepOf t step .answer) ≡ true
+      → Good
+      (stepOf t step .tables)
+      (ghostTurns head turn (lookOf step .trip) (headOf t step) (turnCount (lookOf step .trip) (headOf t step .answer)) (head t step g))
+  unfolding stepOf stepInRangeOf
+  accepted-good t step g k e =
+      ⊎-elim
+      (λ q.
+      rw
+      q
+      (turns-good
+      (lookOf step .trip)
+      (headOf t step)
+      (turnCount (lookOf step .trip) (headOf t step .answer))
+      (head t step g)
+      (turn-count-most (lookOf step .trip) _)
+      (head-keeps
+      t
+      step
+      g
+      k
+      (sym (turns-keep (lookOf step .trip) (headOf t step) (turnCount (lookOf step .trip) (headOf t step .answer)))
+      ∙ (rw q at e)))))
+      (λ q. absurd (false≢true (rw q at e)))
+      (either (inRange t))
+
+  pub step-keeps : (t : Tables) (step : Step) (g : G) → Good t g → Good (stepOf t step .tables) (ghostStep head turn t step g)
+  step-keeps t step g k =
+      ⊎-elim
+      (λ e. rw (ghost-accepted head turn t step g e) (accepted-good t step g k e))
+      (λ e. rw (ghost-refused head turn t step g e, refused-leaves t step e) k)
+      (either (isAccepted (stepOf t step .answer)))
+
+  pub run-keeps : (t : Tables) (ss : List Step) (g : G) → Good t g → Good (runOf t ss) (ghostRun head turn t ss g)
+  unfolding runOf ghostRun
+  run-keeps t [] g k = k
+  run-keeps t (s ∷ ss) g k =
+      run-keeps (stepOf t s .tables) ss (ghostStep head turn t s g) (step-keeps t s g k)
+
+-- ---- a run of records is a run of the steps that they stand for
+
+abbrev pub knownStep : Reading → List Step → List Step
+knownStep Reading.Nothing ss = ss
+knownStep (Reading.Known s) ss = s ∷ ss
+
+unfoldable pub stepsOf : List (List ℕ) → List Step
+stepsOf [] = []
+stepsOf (r ∷ rs) = knownStep (stepOfRecord r) (stepsOf rs)
+
+no-step : (t : Tables) (r : List ℕ) → stepOfRecord r ≡ Reading.Nothing → stepRecordOf t r .tables ≡ t
+unfolding stepRecordOf recordInRangeOf
+no-step t r e = rw e (both (inRange t))
+  where
+    both : (b : Bool) → cond b (readingOf t Reading.Nothing) (refusedAll t) .tables ≡ t
+    both true = refl
+    both false = refl
+
+one-record :
+    (t : Tables) (r : List ℕ) (rs : List (List ℕ)) → ((u : Tables) → runRecordsOf u rs ≡ runOf u (stepsOf rs))
+    → (x : Reading) → stepOfRecord r ≡ x
+    → runRecordsOf (stepRecordOf t r .tables) rs ≡ runOf t (knownStep x (stepsOf rs))
+unfolding runOf
+one-record t r rs rest Reading.Nothing e = ap (λ (u : Tables). runRecordsOf u rs) (no-step t r e) ∙ rest t
+one-record t r rs rest (Reading.Known s) e =
+    ap (λ (o : Outcome). runRecordsOf (o .tables) rs) (record-is-step t r s e) ∙ rest (stepOf t s .tables)
+
+pub records-are-steps : (t : Tables) (rs : List (List ℕ)) → runRecordsOf t rs ≡ runOf t (stepsOf rs)
+unfolding runRecordsOf runOf stepsOf
+records-are-steps t [] = refl
+records-are-steps t (r ∷ rs) = one-record t r rs (λ u. records-are-steps u rs) (stepOfRecord r) refl

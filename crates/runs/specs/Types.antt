@@ -1,0 +1,22 @@
+-- The types of `rules`, under short names. Assumes nothing.
+pub use Rattle.rules.specs.declared.tables.Site.{Site}
+pub use Rattle.rules.specs.declared.tables.Figures.{Figures}
+pub use Rattle.rules.specs.declared.tables.Kind.{Kind}
+pub use Rattle.rules.specs.declared.tables.Phase.{Phase}
+pub use Rattle.rules.specs.declared.tables.Round.{Round}
+pub use Rattle.rules.specs.declared.tables.Status.{Status}
+pub use Rattle.rules.specs.declared.tables.Passage.{Passage}
+pub use Rattle.rules.specs.declared.tables.Visit.{Visit}
+pub use Rattle.rules.specs.declared.tables.Call.{Call}
+pub use Rattle.rules.specs.declared.tables.Asked.{Asked}
+pub use Rattle.rules.specs.declared.tables.Told.{Told}
+pub use Rattle.rules.specs.declared.tables.Body.{Body}
+pub use Rattle.rules.specs.declared.tables.Message.{Message}
+pub use Rattle.rules.specs.declared.tables.Tables.{Tables}
+pub use Rattle.rules.specs.declared.steps.Step.{Step}
+pub use Rattle.rules.specs.declared.answers.Answer.{Answer}
+pub use Rattle.rules.specs.declared.answers.Look.{Look}
+pub use Rattle.rules.specs.declared.answers.Places.{Places}
+pub use Rattle.rules.specs.declared.answers.Seen.{Seen}
+pub use Rattle.rules.specs.declared.answers.Decision.{Decision}
+pub use Rattle.rules.specs.declared.answers.Outcome.{Outcome}
