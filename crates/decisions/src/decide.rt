@@ -1,5 +1,7 @@
 // What each of the sixteen steps decides from what it saw.
+use aborts::abort;
 use calls::invoked::invoke;
+use closing::close;
 use deliveries::delivered::deliver;
 use deliveries::dropped::drop;
 use opening::prepare;
@@ -7,11 +9,9 @@ use opening::refresh;
 use opening::terminate;
 use outages::crash;
 use outages::recover;
-use passages::abort;
 use passages::begin;
 use passages::retire;
 use rounds::ask;
-use rounds::close;
 use rounds::tell;
 use rules::answers::Decision;
 use rules::answers::Seen;
