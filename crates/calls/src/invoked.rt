@@ -1,18 +1,14 @@
-// A call goes out, and a message is lost.
+// A call goes out.
 use checks::bad_handle;
-use checks::bad_message;
 use checks::bad_site;
 use checks::clock_full;
 use checks::first_of;
 use checks::is_full;
-use checks::never;
-use checks::no_mail;
 use checks::no_passage;
 use checks::refuse;
 use checks::settle;
 use checks::site_down;
 use checks::visit_missing;
-use parts::passages::no_message;
 use parts::passages::plain_message;
 use parts::visits::clock_to;
 use parts::visits::count_sent;
@@ -22,10 +18,10 @@ use rules::answers::Seen;
 use rules::tables::Body;
 use rules::tables::Call;
 use rules::tables::Visit;
-ghost use Prim.Native.Nat.{_≤_, _<_};
+ghost use Prim.Native.Nat.{_<_};
 ghost use mathlib.Core.Path.{_≡_};
 ghost use Rattle.rules.specs.Sane.{Sane};
-ghost use Rattle.rules.specs.Calls.{callSite, badCall, isSentOut, callOf, invoked, invokeOf, lost, dropOf};
+ghost use Rattle.rules.specs.Calls.{callSite, badCall, isSentOut, callOf, invoked, invokeOf};
 
 // The site of the object that is called.
 fn call_site(object: u8) -> u8
@@ -117,48 +113,6 @@ pub fn invoke(
     ];
     let answer = first_of(checks, place as u64);
     let left = invoked(h, site, call_of(write, object, value, v), clock, seen);
-    settle(
-        Decision {
-            answer: answer,
-            left: left,
-        },
-        seen,
-    )
-}
-
-// What a drop leaves: the message slot empty.
-fn lost(seen: Seen) -> Seen
-    ensures { λ r. ⌜ r ≡ lost seen ⌝ }
-{
-    let site = seen.site;
-    let passage = seen.passage;
-    let visit = seen.visit;
-    let message = no_message();
-    let objects = seen.objects;
-    Seen {
-        site: site,
-        passage: passage,
-        visit: visit,
-        message: message,
-        objects: objects,
-    }
-}
-
-// 12. drop
-pub fn drop(m: u8, seen: Seen) -> Decision
-    ensures { λ r. ⌜ r ≡ dropOf m seen ⌝ }
-{
-    let checks = [
-        refuse(Refusal::BadField, bad_message(m)),
-        no_mail(seen),
-        never(),
-        never(),
-        never(),
-        never(),
-        never(),
-    ];
-    let answer = first_of(checks, 0);
-    let left = lost(seen);
     settle(
         Decision {
             answer: answer,

@@ -1,4 +1,4 @@
-// The steps of messages: 3 invoke, 11 deliver, 12 drop.
+// The steps of a call: 3 invoke, and 11 deliver of a call.
 // Each equals its definition in rules' specs/Calls.antt: the checks in the order of the refusal table, then the records that are left.
 pub mod delivered;
 pub mod invoked;

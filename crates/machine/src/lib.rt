@@ -1,16 +1,16 @@
 // A step on the tables: number 20, then look, decide, store, and for a sweep or a crash the sixteen slots.
 // `step` and `step_record` are for users. What a runner uses, that holds the tables itself, is in look, decide and turns.
-pub mod decide;
-pub mod look;
-pub mod turns;
 pub mod whole;
 
+pub use decisions::decide;
+pub use decisions::turns;
+pub use places::look;
+use ranges::in_range;
 use rules::answers::Answer;
 use rules::answers::Outcome;
 use rules::answers::Refusal;
 use rules::steps::Step;
 use rules::tables::Tables;
-use tables::ranges::in_range;
 ghost use mathlib.Core.Path.{_≡_};
 ghost use Rattle.rules.specs.Machine.{refusedAll, stepOf};
 ghost use Rattle.rules.specs.Record.{stepRecordOf};

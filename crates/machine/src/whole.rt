@@ -36,7 +36,7 @@ ghost use Rattle.rules.specs.Parts.{isEmpty};
 ghost use Rattle.rules.specs.StoredLaws.{Placed};
 ghost use Rattle.rules.specs.Machine.{lookOf, placesOf, seenOf, isMessageOf, remains, stored, headOf, turnOf, turnsUpTo, stepInRangeOf};
 ghost use Rattle.rules.specs.Record.{recordInRangeOf};
-ghost use Rattle.machine.specs.Turns.{tripValue};
+ghost use Rattle.decisions.specs.Turns.{tripValue};
 
 // The lowest empty message slot, or 32.
 fn lowest_empty(messages: [Message; 32]) -> usize

@@ -1,4 +1,4 @@
-// The steps of a passage's life: 2 begin, 10 abort, 16 retire.
+// A passage slot is taken and freed: 2 begin, 16 retire.
 // Each equals its definition in rules' specs/Passages.antt: the checks in the order of the refusal table, then the records that are left.
 use checks::bad_handle;
 use checks::bad_site;
@@ -10,25 +10,20 @@ use checks::no_passage;
 use checks::refuse;
 use checks::settle;
 use checks::site_down;
-use parts::passages::aborted_passage;
 use parts::passages::is_free;
 use parts::passages::is_over;
-use parts::passages::is_running;
 use parts::rounds::no_round;
 use parts::visits::clock_to;
 use parts::visits::new_visit;
-use parts::visits::quieted;
-use parts::visits::where_there;
 use rules::answers::Decision;
 use rules::answers::Refusal;
 use rules::answers::Seen;
 use rules::tables::Passage;
 use rules::tables::Status;
-ghost use Prim.Native.Nat.{_+_, _*_};
 ghost use mathlib.Core.Path.{_≡_};
 ghost use Rattle.rules.specs.Sane.{Sane};
 ghost use Rattle.rules.specs.Tables.{handleOf, freeSlot};
-ghost use Rattle.rules.specs.Passages.{begunPassage, begun, beginOf, aborted, abortOf, nextGeneration, retired, retireOf};
+ghost use Rattle.rules.specs.Passages.{begunPassage, begun, beginOf, nextGeneration, retired, retireOf};
 
 // An active passage with this home, round 0, in the slot's generation.
 fn begun_passage(home: u8, p: Passage) -> Passage
@@ -100,56 +95,6 @@ fn begun(home: u8, quiesce: u32, release: u32, clock: u64, seen: Seen) -> Seen
         message: message,
         objects: objects,
     }
-}
-
-// What an abort leaves at this clock: the passage aborted, its home visit quiet and unprepared.
-fn aborted(clock: u64, seen: Seen) -> Seen
-    ensures { λ r. ⌜ r ≡ aborted clock seen ⌝ }
-{
-    let s = seen.site;
-    let p = seen.passage;
-    let v = seen.visit;
-    let site = clock_to(s, clock);
-    let passage = aborted_passage(p);
-    let visit = where_there(v, quieted(v, clock, false, v.dead));
-    let message = seen.message;
-    let objects = seen.objects;
-    Seen {
-        site: site,
-        passage: passage,
-        visit: visit,
-        message: message,
-        objects: objects,
-    }
-}
-
-// 10. abort
-pub fn abort(h: u16, seen: Seen) -> Decision
-    requires { ⌜ Sane seen ⌝ }
-    ensures { λ r. ⌜ r ≡ abortOf h seen ⌝ }
-{
-    let s = seen.site;
-    let p = seen.passage;
-    let status = p.status;
-    let clock = s.clock + 1;
-    let checks = [
-        refuse(Refusal::BadField, bad_handle(h)),
-        no_passage(h, seen),
-        site_down(seen),
-        refuse(Refusal::WrongState, !is_running(status)),
-        clock_full(clock),
-        never(),
-        never(),
-    ];
-    let answer = first_of(checks, 0);
-    let left = aborted(clock, seen);
-    settle(
-        Decision {
-            answer: answer,
-            left: left,
-        },
-        seen,
-    )
 }
 
 // 255 is followed by 0.

@@ -1,8 +1,7 @@
-// The steps of a round: 4 refresh, 5 terminate, 6 prepare, 7 ask, 8 close, 9 tell.
+// The mail of an open round goes out: 7 ask, 9 tell.
 // Each equals its definition in rules' specs/Rounds.antt: the checks in the order of the refusal table, then the records that are left.
 use checks::bad_handle;
 use checks::bad_site;
-use checks::bad_times;
 use checks::clock_full;
 use checks::first_of;
 use checks::is_full;
@@ -11,165 +10,21 @@ use checks::no_passage;
 use checks::refuse;
 use checks::settle;
 use checks::site_down;
-use checks::visit_missing;
-use parts::objects::told_objects;
+use closing::round_told;
 use parts::passages::asked_of;
-use parts::passages::asked_status;
-use parts::passages::is_aborted;
-use parts::passages::is_active;
 use parts::passages::is_phase_one;
 use parts::passages::is_phase_two;
-use parts::passages::is_running;
 use parts::passages::plain_message;
-use parts::passages::told_of;
-use parts::passages::told_status;
-use parts::passages::with_phase;
-use parts::rounds::answer_count;
 use parts::rounds::has_answered;
-use parts::rounds::is_closed;
-use parts::rounds::largest_quiesce;
-use parts::rounds::opened_round;
-use parts::rounds::with_answer;
-use parts::visits::asked_visit;
 use parts::visits::clock_to;
-use parts::visits::figures_of;
-use parts::visits::told_visit;
-use parts::visits::where_there;
 use rules::answers::Decision;
 use rules::answers::Refusal;
 use rules::answers::Seen;
 use rules::tables::Body;
-use rules::tables::Kind;
-use rules::tables::Object;
-use rules::tables::Passage;
-use rules::tables::Phase;
 use rules::tables::Round;
-use rules::tables::Told;
-use rules::tables::Visit;
-ghost use Prim.Native.Nat.{_≤_};
 ghost use mathlib.Core.Path.{_≡_};
 ghost use Rattle.rules.specs.Sane.{Sane};
-ghost use Rattle.rules.specs.Rounds.{openedVisit, openedPassage, opened, openOf, refreshOf, terminateOf, prepareOf, sentOut, askBody, askOf, roundTold, closedPassage, objectsWhereThere, closed, closeOf, tellBody, tellOf};
-
-// The home visit after home's own phase 1 part.
-fn opened_visit(kind: Kind, clock: u64, seen: Seen) -> Visit
-    requires { ⌜ Sane seen ⌝ }
-    ensures { λ r. ⌜ r ≡ openedVisit kind clock seen ⌝ }
-{
-    let p = seen.passage;
-    let round = p.round;
-    let v = seen.visit;
-    asked_visit(asked_of(kind), round.number + 1, clock, v)
-}
-
-// The passage with its round open, home's figures kept and home answering.
-fn opened_passage(kind: Kind, p: Passage, v: Visit) -> Passage
-    requires { ⌜ (p .home ≤ 7) × (p .round .number ≤ 1000) ⌝ }
-    ensures { λ r. ⌜ r ≡ openedPassage kind p v ⌝ }
-{
-    let before = p.status;
-    let status = asked_status(asked_of(kind), before);
-    let old = p.round;
-    let home = p.home as usize;
-    let round = with_answer(opened_round(old, kind), home, figures_of(v));
-    Passage {
-        status: status,
-        home: p.home,
-        round: round,
-        generation: p.generation,
-    }
-}
-
-// What opening a round leaves at this clock.
-fn opened(kind: Kind, clock: u64, seen: Seen) -> Seen
-    requires { ⌜ Sane seen ⌝ }
-    ensures { λ r. ⌜ r ≡ opened kind clock seen ⌝ }
-{
-    let s = seen.site;
-    let p = seen.passage;
-    let site = clock_to(s, clock);
-    let visit = opened_visit(kind, clock, seen);
-    let passage = opened_passage(kind, p, visit);
-    let message = seen.message;
-    let objects = seen.objects;
-    Seen {
-        site: site,
-        passage: passage,
-        visit: visit,
-        message: message,
-        objects: objects,
-    }
-}
-
-// What refresh, terminate and prepare share: a round opens, unless a field is bad, the status wrong, or the rest of the table refuses.
-fn open(h: u16, kind: Kind, bad: bool, wrong: bool, seen: Seen) -> Decision
-    requires { ⌜ Sane seen ⌝ }
-    ensures { λ r. ⌜ r ≡ openOf h kind bad wrong seen ⌝ }
-{
-    let s = seen.site;
-    let p = seen.passage;
-    let round = p.round;
-    let number = round.number + 1;
-    let clock = s.clock + 1;
-    let checks = [
-        refuse(Refusal::BadField, bad),
-        no_passage(h, seen),
-        site_down(seen),
-        refuse(Refusal::WrongState, wrong),
-        visit_missing(seen),
-        clock_full(clock),
-        refuse(Refusal::Full, 1000 <= round.number),
-    ];
-    let answer = first_of(checks, number as u64);
-    let left = opened(kind, clock, seen);
-    settle(
-        Decision {
-            answer: answer,
-            left: left,
-        },
-        seen,
-    )
-}
-
-// 4. refresh
-pub fn refresh(h: u16, quiesce: u32, release: u32, seen: Seen) -> Decision
-    requires { ⌜ Sane seen ⌝ }
-    ensures { λ r. ⌜ r ≡ refreshOf h quiesce release seen ⌝ }
-{
-    let p = seen.passage;
-    let status = p.status;
-    let kind = Kind::Refresh {
-        quiesce: quiesce,
-        release: release,
-    };
-    open(
-        h,
-        kind,
-        bad_handle(h) | bad_times(quiesce, release),
-        !is_active(status),
-        seen,
-    )
-}
-
-// 5. terminate
-pub fn terminate(h: u16, seen: Seen) -> Decision
-    requires { ⌜ Sane seen ⌝ }
-    ensures { λ r. ⌜ r ≡ terminateOf h seen ⌝ }
-{
-    let p = seen.passage;
-    let status = p.status;
-    open(h, Kind::Terminate, bad_handle(h), !is_aborted(status), seen)
-}
-
-// 6. prepare
-pub fn prepare(h: u16, seen: Seen) -> Decision
-    requires { ⌜ Sane seen ⌝ }
-    ensures { λ r. ⌜ r ≡ prepareOf h seen ⌝ }
-{
-    let p = seen.passage;
-    let status = p.status;
-    open(h, Kind::Prepare, bad_handle(h), !is_running(status), seen)
-}
+ghost use Rattle.rules.specs.Rounds.{sentOut, askBody, askOf, tellBody, tellOf};
 
 // A message from home goes into the empty slot, and the clock moves.
 fn sent_out(body: Body, h: u16, site: u8, clock: u64, seen: Seen) -> Seen
@@ -221,88 +76,6 @@ pub fn ask(h: u16, site: u8, place: usize, seen: Seen) -> Decision
     ];
     let answer = first_of(checks, place as u64);
     let left = sent_out(ask_body(round), h, site, clock, seen);
-    settle(
-        Decision {
-            answer: answer,
-            left: left,
-        },
-        seen,
-    )
-}
-
-// What a round tells in its phase 2.
-fn round_told(round: Round) -> Told
-    ensures { λ r. ⌜ r ≡ roundTold round ⌝ }
-{
-    let kind = round.kind;
-    told_of(kind, largest_quiesce(round))
-}
-
-fn closed_passage(told: Told, p: Passage) -> Passage
-    ensures { λ r. ⌜ r ≡ closedPassage told p ⌝ }
-{
-    let before = p.status;
-    let status = told_status(told, before);
-    let old = p.round;
-    let round = with_phase(old, Phase::Two);
-    Passage {
-        status: status,
-        home: p.home,
-        round: round,
-        generation: p.generation,
-    }
-}
-
-fn objects_where_there(v: Visit, changed: [Object; 4], objects: [Object; 4]) -> [Object; 4]
-    ensures { λ r. ⌜ r ≡ objectsWhereThere v changed objects ⌝ }
-{
-    if v.there { changed } else { objects }
-}
-
-// What a close leaves at this clock, where the round tells this.
-fn closed(told: Told, slot: u8, clock: u64, seen: Seen) -> Seen
-    ensures { λ r. ⌜ r ≡ closed told slot clock seen ⌝ }
-{
-    let s = seen.site;
-    let p = seen.passage;
-    let v = seen.visit;
-    let held = seen.objects;
-    let site = clock_to(s, clock);
-    let passage = closed_passage(told, p);
-    let visit = where_there(v, told_visit(told, v));
-    let message = seen.message;
-    let changed = told_objects(told, slot, held);
-    let objects = objects_where_there(v, changed, held);
-    Seen {
-        site: site,
-        passage: passage,
-        visit: visit,
-        message: message,
-        objects: objects,
-    }
-}
-
-// 8. close
-pub fn close(h: u16, seen: Seen) -> Decision
-    requires { ⌜ Sane seen ⌝ }
-    ensures { λ r. ⌜ r ≡ closeOf h seen ⌝ }
-{
-    let s = seen.site;
-    let p = seen.passage;
-    let round = p.round;
-    let phase = round.phase;
-    let clock = s.clock + 1;
-    let checks = [
-        refuse(Refusal::BadField, bad_handle(h)),
-        no_passage(h, seen),
-        site_down(seen),
-        refuse(Refusal::WrongState, !is_phase_one(phase)),
-        clock_full(clock),
-        refuse(Refusal::NotClosed, !is_closed(round)),
-        never(),
-    ];
-    let answer = first_of(checks, answer_count(round) as u64);
-    let left = closed(round_told(round), (h % 16) as u8, clock, seen);
     settle(
         Decision {
             answer: answer,

@@ -1,3 +1,2 @@
-// The tables at the start, and the test for number 20 over every number of every table.
-pub mod ranges;
+// The tables at the start.
 pub mod start;

@@ -7,7 +7,7 @@ use mathlib.Core.Path.{_≡_, refl}
 use borrow.Author.Needs.{needs}
 use lib.ListN.{getD}
 use Rattle.rules.specs.Machine.{turnsUpTo}
-use Rattle.machine.specs.Turns.{tripValue}
+use Rattle.decisions.specs.Turns.{tripValue}
 use Rattle.machine.proofs.whole.turns.Statement.{statement}
 use Rattle.machine.proofs.whole.turns.Tie as tie
 

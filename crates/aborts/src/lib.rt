@@ -1,0 +1,71 @@
+// A passage is given up: 10 abort.
+// It equals its definition in rules' specs/Passages.antt: the checks in the order of the refusal table, then the records that are left.
+use checks::bad_handle;
+use checks::clock_full;
+use checks::first_of;
+use checks::never;
+use checks::no_passage;
+use checks::refuse;
+use checks::settle;
+use checks::site_down;
+use parts::passages::aborted_passage;
+use parts::passages::is_running;
+use parts::visits::clock_to;
+use parts::visits::quieted;
+use parts::visits::where_there;
+use rules::answers::Decision;
+use rules::answers::Refusal;
+use rules::answers::Seen;
+ghost use mathlib.Core.Path.{_≡_};
+ghost use Rattle.rules.specs.Sane.{Sane};
+ghost use Rattle.rules.specs.Passages.{aborted, abortOf};
+
+// What an abort leaves at this clock: the passage aborted, its home visit quiet and unprepared.
+fn aborted(clock: u64, seen: Seen) -> Seen
+    ensures { λ r. ⌜ r ≡ aborted clock seen ⌝ }
+{
+    let s = seen.site;
+    let p = seen.passage;
+    let v = seen.visit;
+    let site = clock_to(s, clock);
+    let passage = aborted_passage(p);
+    let visit = where_there(v, quieted(v, clock, false, v.dead));
+    let message = seen.message;
+    let objects = seen.objects;
+    Seen {
+        site: site,
+        passage: passage,
+        visit: visit,
+        message: message,
+        objects: objects,
+    }
+}
+
+// 10. abort
+pub fn abort(h: u16, seen: Seen) -> Decision
+    requires { ⌜ Sane seen ⌝ }
+    ensures { λ r. ⌜ r ≡ abortOf h seen ⌝ }
+{
+    let s = seen.site;
+    let p = seen.passage;
+    let status = p.status;
+    let clock = s.clock + 1;
+    let checks = [
+        refuse(Refusal::BadField, bad_handle(h)),
+        no_passage(h, seen),
+        site_down(seen),
+        refuse(Refusal::WrongState, !is_running(status)),
+        clock_full(clock),
+        never(),
+        never(),
+    ];
+    let answer = first_of(checks, 0);
+    let left = aborted(clock, seen);
+    settle(
+        Decision {
+            answer: answer,
+            left: left,
+        },
+        seen,
+    )
+}

@@ -1,0 +1,115 @@
+// A round goes from phase 1 to phase 2: 8 close.
+// It equals its definition in rules' specs/Rounds.antt: the checks in the order of the refusal table, then the records that are left.
+use checks::bad_handle;
+use checks::clock_full;
+use checks::first_of;
+use checks::never;
+use checks::no_passage;
+use checks::refuse;
+use checks::settle;
+use checks::site_down;
+use parts::objects::told_objects;
+use parts::passages::is_phase_one;
+use parts::passages::told_of;
+use parts::passages::told_status;
+use parts::passages::with_phase;
+use parts::rounds::answer_count;
+use parts::rounds::is_closed;
+use parts::rounds::largest_quiesce;
+use parts::visits::clock_to;
+use parts::visits::told_visit;
+use parts::visits::where_there;
+use rules::answers::Decision;
+use rules::answers::Refusal;
+use rules::answers::Seen;
+use rules::tables::Object;
+use rules::tables::Passage;
+use rules::tables::Phase;
+use rules::tables::Round;
+use rules::tables::Told;
+use rules::tables::Visit;
+ghost use mathlib.Core.Path.{_≡_};
+ghost use Rattle.rules.specs.Sane.{Sane};
+ghost use Rattle.rules.specs.Rounds.{roundTold, closedPassage, objectsWhereThere, closed, closeOf};
+
+// What a round tells in its phase 2.
+pub fn round_told(round: Round) -> Told
+    ensures { λ r. ⌜ r ≡ roundTold round ⌝ }
+{
+    let kind = round.kind;
+    told_of(kind, largest_quiesce(round))
+}
+
+fn closed_passage(told: Told, p: Passage) -> Passage
+    ensures { λ r. ⌜ r ≡ closedPassage told p ⌝ }
+{
+    let before = p.status;
+    let status = told_status(told, before);
+    let old = p.round;
+    let round = with_phase(old, Phase::Two);
+    Passage {
+        status: status,
+        home: p.home,
+        round: round,
+        generation: p.generation,
+    }
+}
+
+fn objects_where_there(v: Visit, changed: [Object; 4], objects: [Object; 4]) -> [Object; 4]
+    ensures { λ r. ⌜ r ≡ objectsWhereThere v changed objects ⌝ }
+{
+    if v.there { changed } else { objects }
+}
+
+// What a close leaves at this clock, where the round tells this.
+fn closed(told: Told, slot: u8, clock: u64, seen: Seen) -> Seen
+    ensures { λ r. ⌜ r ≡ closed told slot clock seen ⌝ }
+{
+    let s = seen.site;
+    let p = seen.passage;
+    let v = seen.visit;
+    let held = seen.objects;
+    let site = clock_to(s, clock);
+    let passage = closed_passage(told, p);
+    let visit = where_there(v, told_visit(told, v));
+    let message = seen.message;
+    let changed = told_objects(told, slot, held);
+    let objects = objects_where_there(v, changed, held);
+    Seen {
+        site: site,
+        passage: passage,
+        visit: visit,
+        message: message,
+        objects: objects,
+    }
+}
+
+// 8. close
+pub fn close(h: u16, seen: Seen) -> Decision
+    requires { ⌜ Sane seen ⌝ }
+    ensures { λ r. ⌜ r ≡ closeOf h seen ⌝ }
+{
+    let s = seen.site;
+    let p = seen.passage;
+    let round = p.round;
+    let phase = round.phase;
+    let clock = s.clock + 1;
+    let checks = [
+        refuse(Refusal::BadField, bad_handle(h)),
+        no_passage(h, seen),
+        site_down(seen),
+        refuse(Refusal::WrongState, !is_phase_one(phase)),
+        clock_full(clock),
+        refuse(Refusal::NotClosed, !is_closed(round)),
+        never(),
+    ];
+    let answer = first_of(checks, answer_count(round) as u64);
+    let left = closed(round_told(round), (h % 16) as u8, clock, seen);
+    settle(
+        Decision {
+            answer: answer,
+            left: left,
+        },
+        seen,
+    )
+}

@@ -1,0 +1,134 @@
+// A message is delivered, by what its slot holds: a call, a phase 1 or phase 2 message, an answer, or nothing.
+use calls::delivered::deliver_call;
+use checks::bad_message;
+use checks::clock_full;
+use checks::first_of;
+use checks::never;
+use checks::no_mail;
+use checks::refuse;
+use checks::settle;
+use checks::site_down;
+use parts::passages::is_free;
+use parts::passages::is_phase_one;
+use parts::passages::no_message;
+use parts::passages::with_round;
+use parts::rounds::with_answer;
+use parts::seen::mail_clock;
+use parts::visits::clock_to;
+use phases::deliver_phase_one;
+use phases::deliver_phase_two;
+use rules::answers::Decision;
+use rules::answers::Refusal;
+use rules::answers::Seen;
+use rules::tables::Body;
+use rules::tables::Figures;
+ghost use mathlib.Core.Path.{_≡_};
+ghost use Rattle.rules.specs.Sane.{Sane};
+ghost use Rattle.rules.specs.Calls.{emptyOf, answeredAt, deliverAnswerOf, deliverOf};
+
+// An empty slot: 2, then 3.
+fn deliver_empty(m: u8, seen: Seen) -> Decision
+    ensures { λ r. ⌜ r ≡ emptyOf m seen ⌝ }
+{
+    let checks = [
+        refuse(Refusal::BadField, bad_message(m)),
+        no_mail(seen),
+        never(),
+        never(),
+        never(),
+        never(),
+        never(),
+    ];
+    let answer = first_of(checks, 0);
+    settle(
+        Decision {
+            answer: answer,
+            left: seen,
+        },
+        seen,
+    )
+}
+
+// What a delivered answer leaves at this clock.
+fn answered_at(f: Figures, clock: u64, seen: Seen) -> Seen
+    requires { ⌜ Sane seen ⌝ }
+    ensures { λ r. ⌜ r ≡ answeredAt f clock seen ⌝ }
+{
+    let s = seen.site;
+    let p = seen.passage;
+    let m = seen.message;
+    let source = m.source as usize;
+    let old = p.round;
+    let site = clock_to(s, clock);
+    let passage = with_round(p, with_answer(old, source, f));
+    let visit = seen.visit;
+    let message = no_message();
+    let objects = seen.objects;
+    Seen {
+        site: site,
+        passage: passage,
+        visit: visit,
+        message: message,
+        objects: objects,
+    }
+}
+
+// 11. deliver of an answer.
+fn deliver_answer(m: u8, number: u16, received: u16, quiesce: u32, seen: Seen) -> Decision
+    requires { ⌜ Sane seen ⌝ }
+    ensures { λ r. ⌜ r ≡ deliverAnswerOf m number received quiesce seen ⌝ }
+{
+    let clock = mail_clock(seen);
+    let p = seen.passage;
+    let status = p.status;
+    let round = p.round;
+    let phase = round.phase;
+    let mail = seen.message;
+    let sent = mail.sent;
+    let checks = [
+        refuse(Refusal::BadField, bad_message(m)),
+        site_down(seen),
+        clock_full(clock),
+        refuse(
+            Refusal::WrongRound,
+            is_free(status) | !is_phase_one(phase) | !(number == round.number),
+        ),
+        never(),
+        never(),
+        never(),
+    ];
+    let answer = first_of(checks, 0);
+    let figures = Figures {
+        sent: sent,
+        received: received,
+        quiesce: quiesce,
+    };
+    let left = answered_at(figures, clock, seen);
+    settle(
+        Decision {
+            answer: answer,
+            left: left,
+        },
+        seen,
+    )
+}
+
+// 11. deliver, by what the message slot holds.
+pub fn deliver(m: u8, seen: Seen) -> Decision
+    requires { ⌜ Sane seen ⌝ }
+    ensures { λ r. ⌜ r ≡ deliverOf m seen ⌝ }
+{
+    let mail = seen.message;
+    let body = mail.body;
+    match body {
+        Body::Empty => deliver_empty(m, seen),
+        Body::Call(call) => deliver_call(m, call, seen),
+        Body::PhaseOne { number, asked } => deliver_phase_one(m, number, asked, seen),
+        Body::PhaseTwo { number, told } => deliver_phase_two(m, number, told, seen),
+        Body::Answer {
+            number,
+            received,
+            quiesce,
+        } => deliver_answer(m, number, received, quiesce, seen),
+    }
+}

@@ -1,0 +1,130 @@
+// The steps of an outage: 14 crash, 15 recover.
+// Each equals its definition in rules' specs/Stations.antt: the checks in the order of the refusal table, then the records that are left.
+use checks::bad_site;
+use checks::clock_full;
+use checks::first_of;
+use checks::never;
+use checks::refuse;
+use checks::settle;
+use checks::site_down;
+use parts::passages::aborted_passage;
+use parts::passages::is_running;
+use parts::seen::left_site;
+use parts::visits::quieted;
+use parts::visits::where_there;
+use rules::answers::Decision;
+use rules::answers::Refusal;
+use rules::answers::Seen;
+use rules::tables::Passage;
+use rules::tables::Site;
+use rules::tables::Visit;
+ghost use mathlib.Core.Path.{_≡_};
+ghost use Rattle.rules.specs.Sane.{Sane};
+ghost use Rattle.rules.specs.Stations.{crashOf, losesHome, crashedVisit, crashedPassage, crashedSlot, recoverOf};
+
+// 14. crash: the clock moves and the site is down; then each slot of the site is quieted.
+pub fn crash(site: u8, seen: Seen) -> Decision
+    requires { ⌜ Sane seen ⌝ }
+    ensures { λ r. ⌜ r ≡ crashOf site seen ⌝ }
+{
+    let s = seen.site;
+    let clock = s.clock + 1;
+    let checks = [
+        refuse(Refusal::BadField, bad_site(site)),
+        site_down(seen),
+        clock_full(clock),
+        never(),
+        never(),
+        never(),
+        never(),
+    ];
+    let answer = first_of(checks, 0);
+    let down = Site {
+        clock: clock,
+        up: false,
+    };
+    let left = left_site(seen, down);
+    settle(
+        Decision {
+            answer: answer,
+            left: left,
+        },
+        seen,
+    )
+}
+
+// A running passage whose home this is.
+fn loses_home(site: u8, p: Passage) -> bool
+    ensures { λ r. ⌜ r ≡ losesHome site p ⌝ }
+{
+    let status = p.status;
+    is_running(status) & (p.home == site)
+}
+
+fn crashed_visit(homeless: bool, clock: u64, v: Visit) -> Visit
+    ensures { λ r. ⌜ r ≡ crashedVisit homeless clock v ⌝ }
+{
+    if homeless | !v.prepared {
+        quieted(v, clock, false, true)
+    } else {
+        v
+    }
+}
+
+fn crashed_passage(homeless: bool, p: Passage) -> Passage
+    ensures { λ r. ⌜ r ≡ crashedPassage homeless p ⌝ }
+{
+    if homeless { aborted_passage(p) } else { p }
+}
+
+// One slot of a crash: its visit is quieted and dead, and a passage that loses its home is aborted.
+pub fn crashed_slot(site: u8, slot: u8, seen: Seen) -> Seen
+    ensures { λ r. ⌜ r ≡ crashedSlot site slot seen ⌝ }
+{
+    let s = seen.site;
+    let old = seen.passage;
+    let v = seen.visit;
+    let homeless = loses_home(site, old);
+    let passage = crashed_passage(homeless, old);
+    let visit = where_there(v, crashed_visit(homeless, s.clock, v));
+    let message = seen.message;
+    let objects = seen.objects;
+    Seen {
+        site: s,
+        passage: passage,
+        visit: visit,
+        message: message,
+        objects: objects,
+    }
+}
+
+// 15. recover: up again.
+pub fn recover(site: u8, seen: Seen) -> Decision
+    requires { ⌜ Sane seen ⌝ }
+    ensures { λ r. ⌜ r ≡ recoverOf site seen ⌝ }
+{
+    let s = seen.site;
+    let clock = s.clock + 1;
+    let checks = [
+        refuse(Refusal::BadField, bad_site(site)),
+        refuse(Refusal::WrongState, s.up),
+        clock_full(clock),
+        never(),
+        never(),
+        never(),
+        never(),
+    ];
+    let answer = first_of(checks, 0);
+    let up = Site {
+        clock: clock,
+        up: true,
+    };
+    let left = left_site(seen, up);
+    settle(
+        Decision {
+            answer: answer,
+            left: left,
+        },
+        seen,
+    )
+}

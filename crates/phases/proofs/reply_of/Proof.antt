@@ -1,0 +1,24 @@
+-- `phases::reply_of` meets its contract. What its callees ensure, put together, is the definition. Assumes nothing.
+use borrow.Author.Needs.{needs}
+use Rattle.phases.proofs.reply_of.Statement.{statement}
+use Rattle.phases.proofs.reply_of.Tie as tie
+
+at-home-requires : tie.Need-at-home-requires
+at-home-requires c κs = search needs
+
+no-message-requires : tie.Need-no-message-requires
+no-message-requires c κs = search needs
+
+answer-message-requires : tie.Need-answer-message-requires
+answer-message-requires c κs = search needs
+
+returns : tie.Need-returns
+returns c = rw (c .no-message .ensures, ← c .before .before .at-home .ensures, c .before .if1 .taken)
+
+returns-2 : tie.Need-returns-2
+returns-2 c = rw (c .answer-message .ensures, ← c .before .before .at-home .ensures, c .before .if1 .left)
+
+pub reply-of-spec : {M : Type 1} → statement M
+reply-of-spec =
+    tie.close
+    (tie.spec at-home-requires no-message-requires answer-message-requires returns returns-2)

@@ -1,0 +1,20 @@
+-- `places::look::first_next` meets its contract. What its callees ensure, put together, is the definition. Assumes nothing.
+use borrow.Author.Needs.{needs}
+use borrow.Author.Tests.{eq-eqb, ne-eqb}
+use Rattle.places.proofs.look.first_next.Statement.{statement}
+use Rattle.places.proofs.look.first_next.Tie as tie
+
+is-empty-requires : tie.Need-is-empty-requires
+is-empty-requires c κs = search needs
+
+here-or-next-requires : tie.Need-here-or-next-requires
+here-or-next-requires c κs = search needs
+
+returns : tie.Need-returns
+returns c = rw (c .before .here-or-next .ensures, c .before .before .is-empty .ensures, eq-eqb (c .before .before .before .args .found) (c .before .before .before .args .i) (c .if1 .taken))
+
+returns-2 : tie.Need-returns-2
+returns-2 c = rw (ne-eqb (c .before .before .before .args .found) (c .before .before .before .args .i) (c .if1 .left))
+
+pub first-next-spec : {M : Type 1} → statement M
+first-next-spec = tie.close (tie.spec is-empty-requires here-or-next-requires returns returns-2)

@@ -1,0 +1,60 @@
+-- `ranges::all_figures_in_range` meets its contract. The loop carries what the definition gives up to the index, and each turn adds one more. Assumes nothing.
+use Prim.Native.Nat.{_-_, _≤_}
+use native.Mathlib.Omega.{arith}
+use native.Mathlib.Numerals.{add-one}
+use mathlib.Core.Path.{_≡_, refl}
+use borrow.Author.Needs.{needs}
+use lib.ListN.{getD}
+use Rattle.rules.specs.Loops.{everyUpTo}
+use Rattle.rules.specs.Ranges.{figuresInRange}
+use Rattle.rules.specs.Tables.{pastFigures}
+use Rattle.ranges.proofs.all_figures_in_range.Statement.{statement}
+use Rattle.ranges.proofs.all_figures_in_range.Tie as tie
+
+abbrev Inv-loop : tie.InvT-loop
+Inv-loop figures ok₀ s₀ ok s = (ok ≡ everyUpTo (λ k. figuresInRange (getD figures k pastFigures)) s) × (s ≤ 8)
+
+abbrev μ-loop : tie.MeasureT-loop
+μ-loop figures ok₀ s₀ ok s = 8 - s
+
+loop-holds : tie.Need-loop-holds Inv-loop μ-loop
+unfolding everyUpTo
+loop-holds c = (refl, search needs)
+
+mul-figures-in-range : tie.Need-mul-figures-in-range Inv-loop μ-loop
+mul-figures-in-range c = search needs
+
+array-copy-out-figures-in-range : tie.Need-array-copy-out-figures-in-range Inv-loop μ-loop
+array-copy-out-figures-in-range c = search needs
+
+figures-in-range-requires : tie.Need-figures-in-range-requires Inv-loop μ-loop
+figures-in-range-requires c κs = search needs
+
+add-s : tie.Need-add-s Inv-loop μ-loop
+add-s c = search needs
+
+loop-less : tie.Need-loop-less Inv-loop μ-loop
+loop-less c = search needs
+
+loop-again : tie.Need-loop-again Inv-loop μ-loop
+unfolding everyUpTo
+loop-again c = (rw (add-one, c .figures-in-range .ensures, ← c .before .before .before .loop .inv .0), search needs)
+
+returns : tie.Need-returns Inv-loop μ-loop
+returns c =
+    let e : c .before .loop .s ≡ 8 = omega arith in rw e at (c .before .loop .inv .0)
+
+pub all-figures-in-range-spec : {M : Type 1} → statement M
+all-figures-in-range-spec =
+    tie.close
+    (tie.spec
+    Inv-loop
+    μ-loop
+    loop-holds
+    mul-figures-in-range
+    array-copy-out-figures-in-range
+    figures-in-range-requires
+    add-s
+    loop-less
+    loop-again
+    returns)

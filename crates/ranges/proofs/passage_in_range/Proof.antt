@@ -1,0 +1,13 @@
+-- `ranges::passage_in_range` meets its contract. What its callees ensure, put together, is the definition. Assumes nothing.
+use borrow.Author.Needs.{needs}
+use Rattle.ranges.proofs.passage_in_range.Statement.{statement}
+use Rattle.ranges.proofs.passage_in_range.Tie as tie
+
+round-in-range-requires : tie.Need-round-in-range-requires
+round-in-range-requires c κs = search needs
+
+returns : tie.Need-returns
+returns c = rw (c .round-in-range .ensures)
+
+pub passage-in-range-spec : {M : Type 1} → statement M
+passage-in-range-spec = tie.close (tie.spec round-in-range-requires returns)

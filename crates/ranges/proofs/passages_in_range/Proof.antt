@@ -1,0 +1,60 @@
+-- `ranges::passages_in_range` meets its contract. The loop carries what the definition gives up to the index, and each turn adds one more. Assumes nothing.
+use Prim.Native.Nat.{_-_, _≤_}
+use native.Mathlib.Omega.{arith}
+use native.Mathlib.Numerals.{add-one}
+use mathlib.Core.Path.{_≡_, refl}
+use borrow.Author.Needs.{needs}
+use lib.ListN.{getD}
+use Rattle.rules.specs.Loops.{everyUpTo}
+use Rattle.rules.specs.Ranges.{passageInRange}
+use Rattle.rules.specs.Tables.{pastPassage}
+use Rattle.ranges.proofs.passages_in_range.Statement.{statement}
+use Rattle.ranges.proofs.passages_in_range.Tie as tie
+
+abbrev Inv-loop : tie.InvT-loop
+Inv-loop passages ok₀ i₀ ok i = (ok ≡ everyUpTo (λ k. passageInRange (getD passages k pastPassage)) i) × (i ≤ 16)
+
+abbrev μ-loop : tie.MeasureT-loop
+μ-loop passages ok₀ i₀ ok i = 16 - i
+
+loop-holds : tie.Need-loop-holds Inv-loop μ-loop
+unfolding everyUpTo
+loop-holds c = (refl, search needs)
+
+mul-passage-in-range : tie.Need-mul-passage-in-range Inv-loop μ-loop
+mul-passage-in-range c = search needs
+
+array-copy-out-passage-in-range : tie.Need-array-copy-out-passage-in-range Inv-loop μ-loop
+array-copy-out-passage-in-range c = search needs
+
+passage-in-range-requires : tie.Need-passage-in-range-requires Inv-loop μ-loop
+passage-in-range-requires c κs = search needs
+
+add-i : tie.Need-add-i Inv-loop μ-loop
+add-i c = search needs
+
+loop-less : tie.Need-loop-less Inv-loop μ-loop
+loop-less c = search needs
+
+loop-again : tie.Need-loop-again Inv-loop μ-loop
+unfolding everyUpTo
+loop-again c = (rw (add-one, c .passage-in-range .ensures, ← c .before .before .before .loop .inv .0), search needs)
+
+returns : tie.Need-returns Inv-loop μ-loop
+returns c =
+    let e : c .before .loop .i ≡ 16 = omega arith in rw e at (c .before .loop .inv .0)
+
+pub passages-in-range-spec : {M : Type 1} → statement M
+passages-in-range-spec =
+    tie.close
+    (tie.spec
+    Inv-loop
+    μ-loop
+    loop-holds
+    mul-passage-in-range
+    array-copy-out-passage-in-range
+    passage-in-range-requires
+    add-i
+    loop-less
+    loop-again
+    returns)

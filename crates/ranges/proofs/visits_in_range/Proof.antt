@@ -1,0 +1,60 @@
+-- `ranges::visits_in_range` meets its contract. The loop carries what the definition gives up to the index, and each turn adds one more. Assumes nothing.
+use Prim.Native.Nat.{_-_, _≤_}
+use native.Mathlib.Omega.{arith}
+use native.Mathlib.Numerals.{add-one}
+use mathlib.Core.Path.{_≡_, refl}
+use borrow.Author.Needs.{needs}
+use lib.ListN.{getD}
+use Rattle.rules.specs.Loops.{everyUpTo}
+use Rattle.rules.specs.Ranges.{visitInRange}
+use Rattle.rules.specs.Tables.{pastVisit}
+use Rattle.ranges.proofs.visits_in_range.Statement.{statement}
+use Rattle.ranges.proofs.visits_in_range.Tie as tie
+
+abbrev Inv-loop : tie.InvT-loop
+Inv-loop visits ok₀ i₀ ok i = (ok ≡ everyUpTo (λ k. visitInRange (getD visits k pastVisit)) i) × (i ≤ 128)
+
+abbrev μ-loop : tie.MeasureT-loop
+μ-loop visits ok₀ i₀ ok i = 128 - i
+
+loop-holds : tie.Need-loop-holds Inv-loop μ-loop
+unfolding everyUpTo
+loop-holds c = (refl, search needs)
+
+mul-visit-in-range : tie.Need-mul-visit-in-range Inv-loop μ-loop
+mul-visit-in-range c = search needs
+
+array-copy-out-visit-in-range : tie.Need-array-copy-out-visit-in-range Inv-loop μ-loop
+array-copy-out-visit-in-range c = search needs
+
+visit-in-range-requires : tie.Need-visit-in-range-requires Inv-loop μ-loop
+visit-in-range-requires c κs = search needs
+
+add-i : tie.Need-add-i Inv-loop μ-loop
+add-i c = search needs
+
+loop-less : tie.Need-loop-less Inv-loop μ-loop
+loop-less c = search needs
+
+loop-again : tie.Need-loop-again Inv-loop μ-loop
+unfolding everyUpTo
+loop-again c = (rw (add-one, c .visit-in-range .ensures, ← c .before .before .before .loop .inv .0), search needs)
+
+returns : tie.Need-returns Inv-loop μ-loop
+returns c =
+    let e : c .before .loop .i ≡ 128 = omega arith in rw e at (c .before .loop .inv .0)
+
+pub visits-in-range-spec : {M : Type 1} → statement M
+visits-in-range-spec =
+    tie.close
+    (tie.spec
+    Inv-loop
+    μ-loop
+    loop-holds
+    mul-visit-in-range
+    array-copy-out-visit-in-range
+    visit-in-range-requires
+    add-i
+    loop-less
+    loop-again
+    returns)
