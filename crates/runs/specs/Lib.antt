@@ -1,29 +1,37 @@
 -- Theorems over runs: what holds of the tables after every list of steps or records from the start.
+-- What one slot sees, the ledger kept of it, and the clauses of the invariant.
 pub mod Types
 pub mod Put
 pub mod View
 pub mod Clauses
+-- Changes that keep the clauses: the frame law, a visit's times, its calls, messages, the round, a passage's life.
 pub mod Masks
 pub mod Same
 pub mod Shrunk
 pub mod VisitKept
 pub mod TimesKept
 pub mod MailKept
-pub mod RoundKept
-pub mod OpenKept
-pub mod LifeKept
-pub mod Closing
-pub mod ClosedKept
 pub mod Touched
 pub mod CallsKept
+pub mod RoundKept
+pub mod OpenKept
+pub mod Closing
+pub mod ClosedKept
+pub mod LifeKept
+-- Every accepted step is made of such changes: what a store leaves to each slot, then one file a family of steps.
 pub mod Store
 pub mod Fits
 pub mod StationFits
 pub mod LifeFits
 pub mod RoundFits
 pub mod CloseFits
-pub mod Steps
 pub mod InvokeFits
 pub mod DeliverFits
+-- Runs: an invariant of every store holds in every run.
+pub mod Steps
+pub mod Sizes
+pub mod Clocks
+pub mod Holders
 pub mod Ledgers
 pub mod TimeRule
+pub mod RunLaws

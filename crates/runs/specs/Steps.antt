@@ -48,7 +48,7 @@ module _ {G : Type 0} (head : Tables → Step → G → G) (turn : Trip → ℕ 
   ghostRun t [] g = g
   ghostRun t (s ∷ ss) g = ghostRun (stepOf t s .tables) ss (ghostStep t s g)
 
-turn-count-most : (trip : Trip) (a : Answer) → turnCount trip a ≤ 16
+pub turn-count-most : (trip : Trip) (a : Answer) → turnCount trip a ≤ 16
 turn-count-most Trip.Nowhere a = omega arith
 turn-count-most (Trip.Sweep site) a = most (isAccepted a)
   where
