@@ -3,7 +3,8 @@
 pub mod decide;
 pub mod look;
 pub mod turns;
-pub mod whole;
+mod whole;
+pub mod work;
 
 use rules::answers::Answer;
 use rules::answers::Outcome;

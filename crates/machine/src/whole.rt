@@ -10,7 +10,7 @@ use crate::turns::trip_places;
 use crate::turns::turn_answer;
 use crate::turns::turn_count;
 use crate::turns::turn_seen;
-use parts::passages::is_empty;
+use crate::work::is_message_of;
 use records::read_record;
 use rules::answers::Answer;
 use rules::answers::Look;
@@ -134,13 +134,6 @@ fn store(t: Tables, at: Places, left: Seen) -> Tables
     next
 }
 
-fn is_message_of(slot: usize, m: Message) -> bool
-    ensures { λ r. ⌜ r ≡ isMessageOf slot m ⌝ }
-{
-    let body = m.body;
-    !is_empty(body) & ((m.handle % 16) as usize == slot)
-}
-
 fn has_visit(visits: [Visit; 128], slot: usize) -> bool
     requires { ⌜ slot < 16 ⌝ }
     ensures { λ r. ⌜ r ≡ someUpTo (λ s. getD visits (visitPlace s slot) pastVisit .there) 8 ⌝ }
@@ -240,7 +233,7 @@ pub(crate) fn step_in_range(t: Tables, step: Step) -> Outcome
 }
 
 // A record on tables that are in range: a record that stands for no step is refused by 1.
-pub fn record_in_range(t: Tables, bytes: [u8; 16]) -> Outcome
+pub(crate) fn record_in_range(t: Tables, bytes: [u8; 16]) -> Outcome
     requires { ⌜ inRange t ≡ true ⌝ }
     ensures { λ r. ⌜ r ≡ recordInRangeOf t bytes ⌝ }
 {
