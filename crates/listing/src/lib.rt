@@ -81,8 +81,9 @@ fn put_lines(part: &[u8], n: usize, out: &mut [u8]) -> usize
         let first = reading_look(reading);
         let trip = first.trip;
         let named = first.slot;
-        // One pass over the messages, with the eight visits of a slot beside them, finds the lowest empty message slot
-        // and whether anything remains of the passage slot that the step names. Only a retire asks that.
+        // One pass over the messages, with the visits of a slot beside them, finds the lowest empty message slot
+        // and whether anything remains of the passage slot that the step names.
+        // Only a retire asks that; for a step that goes by its message, any slot will do.
         let message0 = t.messages[0];
         let asked = slot_place(named, message0);
         let mut empty: usize = 0;

@@ -1,5 +1,5 @@
 // A step on the tables: number 20, then look, decide, store, and for a sweep or a crash the sixteen slots.
-// `step` and `step_record` are for users. What a runner uses, that holds the tables itself, is in look, decide and turns.
+// `step` and `step_record` are for users. What a runner uses, that holds the tables itself, is in look, turns and work.
 pub mod decide;
 pub mod look;
 pub mod turns;
