@@ -5,10 +5,12 @@ use mathlib.Core.Path.{_≡_, refl, sym, ap, _∙_}
 use mathlib.Core.Bool.{true}
 use mathlib.Core.List.{List, _++_}
 use Rattle.rules.specs.declared.tables.Tables.{Tables}
+use Rattle.rules.specs.declared.steps.Reading.{Reading}
+use Rattle.rules.specs.declared.answers.Outcome.{Outcome}
 use Rattle.rules.specs.Tables.{start}
 use Rattle.rules.specs.Ranges.{inRange}
 use Rattle.rules.specs.RangesKept.{start-in-range, in-range-after-record}
-use Rattle.rules.specs.Record.{recordInRangeOf, stepRecordOf}
+use Rattle.rules.specs.Record.{stepOfRecord, readingOf, recordInRangeOf, stepRecordOf}
 use Rattle.rules.specs.Sheet.{recordAt}
 use Rattle.rules.specs.Listing.{printedUpTo, lineOf}
 
@@ -25,7 +27,7 @@ printed-in-range part (suc n) =
     (in-range-after-record (printedUpTo part n .tables) (recordAt part n) (printed-in-range part n))
 
 -- one record more: the tables that it leaves, and its line behind the lines so far
-pub printed-tables :
+printed-tables :
     (part : List ℕ) (n : ℕ)
     → recordInRangeOf (printedUpTo part n .tables) (recordAt part n) .tables ≡ printedUpTo part (n + 1) .tables
 unfolding printedUpTo
@@ -41,10 +43,22 @@ unfolding printedUpTo
 printed-line part n =
     rw (record-no-twenty (printedUpTo part n .tables) (recordAt part n) (printed-in-range part n))
 
-pub printed-text :
+printed-text :
     (part : List ℕ) (n : ℕ)
     → printedUpTo part n .text
     ++ lineOf (n + 1) (recordInRangeOf (printedUpTo part n .tables) (recordAt part n) .answer)
     ≡ printedUpTo part (n + 1) .text
 printed-text part n =
     printed-line part n ∙ ap {B = List ℕ} (λ (k : ℕ). printedUpTo part k .text) (sym (add-one n))
+
+-- a record's outcome, on the tables so far, leaves the next tables, and its line is the next line
+pub printed-next :
+    (part : List ℕ) (n : ℕ) (t : Tables) (b : List ℕ) (r : Reading) (o : Outcome) → t ≡ printedUpTo part n .tables
+    → b ≡ recordAt part n
+    → r ≡ stepOfRecord b
+    → o ≡ readingOf t r
+    → (o .tables ≡ printedUpTo part (n + 1) .tables)
+    × (printedUpTo part n .text ++ lineOf (n + 1) (o .answer) ≡ printedUpTo part (n + 1) .text)
+unfolding recordInRangeOf
+printed-next part n t b r o e f g h =
+    (rw (h, g, f, e) (printed-tables part n), rw (h, g, f, e) (printed-text part n))

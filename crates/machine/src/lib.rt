@@ -1,10 +1,7 @@
 // A step on the tables: number 20, then look, decide, store, and for a sweep or a crash the sixteen slots.
-// `step` and `step_record` are for users. What a runner uses, that holds the tables itself, is in look, decide and turns.
-pub mod whole;
+// `step` and `step_record` are for users. A runner that holds the tables itself uses `places`, `decisions` and `work`.
+mod whole;
 
-pub use decisions::decide;
-pub use decisions::turns;
-pub use places::look;
 use ranges::in_range;
 use rules::answers::Answer;
 use rules::answers::Outcome;

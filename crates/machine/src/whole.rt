@@ -1,16 +1,15 @@
 // A step on tables by value: the same pieces that a runner uses, put together.
-use crate::decide::decide;
-use crate::look::bank_place;
-use crate::look::first_next;
-use crate::look::look_of;
-use crate::look::mail_place;
-use crate::look::site_place;
-use crate::look::slot_place;
-use crate::turns::trip_places;
-use crate::turns::turn_answer;
-use crate::turns::turn_count;
-use crate::turns::turn_seen;
-use parts::passages::is_empty;
+use decisions::decide::decide;
+use decisions::turns::trip_places;
+use decisions::turns::turn_answer;
+use decisions::turns::turn_count;
+use decisions::turns::turn_seen;
+use places::look::bank_place;
+use places::look::first_next;
+use places::look::look_of;
+use places::look::mail_place;
+use places::look::site_place;
+use places::look::slot_place;
 use records::read_record;
 use rules::answers::Answer;
 use rules::answers::Look;
@@ -24,6 +23,7 @@ use rules::steps::Step;
 use rules::tables::Message;
 use rules::tables::Tables;
 use rules::tables::Visit;
+use work::is_message_of;
 ghost use Prim.Native.Nat.{ℕ, _≤_, _<_};
 ghost use mathlib.Core.Path.{_≡_};
 ghost use mathlib.Core.Bool.{true};
@@ -134,13 +134,6 @@ fn store(t: Tables, at: Places, left: Seen) -> Tables
     next
 }
 
-fn is_message_of(slot: usize, m: Message) -> bool
-    ensures { λ r. ⌜ r ≡ isMessageOf slot m ⌝ }
-{
-    let body = m.body;
-    !is_empty(body) & ((m.handle % 16) as usize == slot)
-}
-
 fn has_visit(visits: [Visit; 128], slot: usize) -> bool
     requires { ⌜ slot < 16 ⌝ }
     ensures { λ r. ⌜ r ≡ someUpTo (λ s. getD visits (visitPlace s slot) pastVisit .there) 8 ⌝ }
@@ -240,7 +233,7 @@ pub(crate) fn step_in_range(t: Tables, step: Step) -> Outcome
 }
 
 // A record on tables that are in range: a record that stands for no step is refused by 1.
-pub fn record_in_range(t: Tables, bytes: [u8; 16]) -> Outcome
+pub(crate) fn record_in_range(t: Tables, bytes: [u8; 16]) -> Outcome
     requires { ⌜ inRange t ≡ true ⌝ }
     ensures { λ r. ⌜ r ≡ recordInRangeOf t bytes ⌝ }
 {

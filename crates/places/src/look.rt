@@ -30,7 +30,7 @@ fn looks_home(mail: MailAt, h: u16) -> Look
 }
 
 // A step of one site alone.
-fn looks_site(site: u8, trip: Trip) -> Look
+pub fn looks_site(site: u8, trip: Trip) -> Look
     ensures { λ r. ⌜ r ≡ looksSite site trip ⌝ }
 {
     Look {
@@ -54,7 +54,7 @@ fn looks_mail(m: u8) -> Look
 }
 
 // A step that names its slot and its site.
-fn looks_both(mail: MailAt, h: u16, site: u8) -> Look
+pub fn looks_both(mail: MailAt, h: u16, site: u8) -> Look
     ensures { λ r. ⌜ r ≡ looks mail (SlotAt.Given h) (SiteAt.Given site) Trip.Nowhere ⌝ }
 {
     Look {

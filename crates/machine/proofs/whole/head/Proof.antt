@@ -1,7 +1,7 @@
 -- `machine::whole::head` meets its contract. What its callees ensure, put together, is the definition. Assumes nothing.
 use Rattle.rules.specs.RangesLaws.{placed-places}
 use Rattle.rules.specs.Machine.{placesOf}
-use Rattle.machine.proofs.Trips.{sane-at}
+use Rattle.decisions.specs.TurnsLaws.{sane-at}
 use borrow.Author.Needs.{needs}
 use Rattle.rules.specs.Machine.{headOf}
 use Rattle.machine.proofs.whole.head.Statement.{statement}

@@ -1,5 +1,5 @@
 -- `machine::whole::step_in_range` meets its contract. What its callees ensure, put together, is the definition. Assumes nothing.
-use Rattle.machine.proofs.Trips.{turn-count-most, trip-starts}
+use Rattle.decisions.specs.TurnsLaws.{turn-count-most, trip-starts}
 use borrow.Author.Needs.{needs}
 use Rattle.rules.specs.Machine.{stepInRangeOf}
 use Rattle.machine.proofs.whole.step_in_range.Statement.{statement}

@@ -1,5 +1,5 @@
 -- `machine::whole::turn` meets its contract. What its callees ensure, put together, is the definition. Assumes nothing.
-use Rattle.machine.proofs.Trips.{placed-trip, turn-is-made}
+use Rattle.decisions.specs.TurnsLaws.{placed-trip, turn-is-made}
 use borrow.Author.Needs.{needs}
 use Rattle.machine.proofs.whole.turn.Statement.{statement}
 use Rattle.machine.proofs.whole.turn.Tie as tie

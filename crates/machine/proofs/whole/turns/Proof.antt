@@ -1,5 +1,5 @@
 -- `machine::whole::turns` meets its contract. The loop carries what the definition gives up to the index, and each turn adds one more. Assumes nothing.
-use Rattle.machine.proofs.Trips.{turn-counts}
+use Rattle.decisions.specs.TurnsLaws.{turn-counts}
 use Prim.Native.Nat.{_-_, _≤_}
 use native.Mathlib.Omega.{arith}
 use native.Mathlib.Numerals.{add-one}

@@ -1,7 +1,7 @@
--- `machine::whole::is_message_of` meets its contract. What its callees ensure, put together, is the definition. Assumes nothing.
+-- `work::is_message_of` meets its contract. What its callees ensure, put together, is the definition. Assumes nothing.
 use borrow.Author.Needs.{needs}
-use Rattle.machine.proofs.whole.is_message_of.Statement.{statement}
-use Rattle.machine.proofs.whole.is_message_of.Tie as tie
+use Rattle.work.proofs.is_message_of.Statement.{statement}
+use Rattle.work.proofs.is_message_of.Tie as tie
 
 is-empty-requires : tie.Need-is-empty-requires
 is-empty-requires c κs = search needs

@@ -1,2 +1,0 @@
--- Laws that the proofs of machine cite. Assumes nothing.
-pub mod Trips

@@ -1,0 +1,23 @@
+-- `work::decide_reading` meets its contract. In each arm the case is known, and the callees give the rest. Assumes nothing.
+use borrow.Author.Needs.{needs}
+use Rattle.work.proofs.decide_reading.Statement.{statement}
+use Rattle.work.proofs.decide_reading.Tie as tie
+
+enum-told : tie.Need-enum-told
+enum-told c = search needs
+
+enum-known-reading : tie.Need-enum-known-reading
+enum-known-reading c = search needs
+
+decide-requires : tie.Need-decide-requires
+decide-requires c κs = search needs
+
+returns : tie.Need-returns
+returns c = rw (c .enum-told .given .1)
+
+returns-2 : tie.Need-returns-2
+returns-2 c = rw (c .decide .ensures, c .before .before .reading .given .1)
+
+pub decide-reading-spec : {M : Type 1} → statement M
+decide-reading-spec =
+    tie.close (tie.spec enum-told enum-known-reading decide-requires returns returns-2)

@@ -1,0 +1,16 @@
+-- `work::decide_slot` meets its contract. What its callees ensure, put together, is the definition. Assumes nothing.
+use borrow.Author.Needs.{needs}
+use Rattle.work.proofs.decide_slot.Statement.{statement}
+use Rattle.work.proofs.decide_slot.Tie as tie
+
+turn-answer-requires : tie.Need-turn-answer-requires
+turn-answer-requires c κs = search needs
+
+turn-seen-requires : tie.Need-turn-seen-requires
+turn-seen-requires c κs = search needs
+
+returns : tie.Need-returns
+returns c = rw (c .turn-seen .ensures, c .before .turn-answer .ensures)
+
+pub decide-slot-spec : {M : Type 1} → statement M
+decide-slot-spec = tie.close (tie.spec turn-answer-requires turn-seen-requires returns)

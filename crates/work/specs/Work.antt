@@ -1,0 +1,65 @@
+-- A record's work, turn by turn: the first turn is the step's own, turn k + 1 of a sweep or a crash is that of slot k. Assumes nothing.
+use Prim.Native.Nat.{ℕ, zero, suc, _-_}
+use mathlib.Core.Bool.{Bool, cond}
+use lib.Dec.{eqb}
+use Rattle.rules.specs.declared.tables.Tables.{Tables}
+use Rattle.rules.specs.declared.steps.Reading.{Reading}
+use Rattle.rules.specs.declared.answers.Answer.{Answer}
+use Rattle.rules.specs.declared.answers.Decision.{Decision}
+use Rattle.rules.specs.declared.answers.Look.{Look}
+use Rattle.rules.specs.declared.answers.MailAt.{MailAt}
+use Rattle.rules.specs.declared.answers.Outcome.{Outcome}
+use Rattle.rules.specs.declared.answers.Refusal.{Refusal}
+use Rattle.rules.specs.declared.answers.Seen.{Seen}
+use Rattle.rules.specs.declared.answers.SiteAt.{SiteAt}
+use Rattle.rules.specs.declared.answers.SlotAt.{SlotAt}
+use Rattle.rules.specs.declared.answers.Trip.{Trip}
+use Rattle.rules.specs.Machine.{looks, looksSite, lookOf, decideOf, headOf, turnOf}
+use Rattle.decisions.specs.Turns.{turnAnswer, turnSeen}
+
+-- ---- where a turn looks
+
+-- a record that stands for no step looks at site 0, and leaves what it sees
+abbrev pub readingLook : Reading → Look
+readingLook Reading.Nothing = looksSite 0 Trip.Nowhere
+readingLook (Reading.Known step) = lookOf step
+
+abbrev pub tripSite : Trip → ℕ
+tripSite Trip.Nowhere = 0
+tripSite (Trip.Sweep site) = site
+tripSite (Trip.Crash site) = site
+
+abbrev pub slotLook : Trip → ℕ → Look
+slotLook trip slot = looks MailAt.Nowhere (SlotAt.Given slot) (SiteAt.Given (tripSite trip)) Trip.Nowhere
+
+abbrev pub turnLook : Look → ℕ → Look
+turnLook look turn = cond (eqb turn 0) look (slotLook (look .trip) (turn - 1))
+
+-- ---- what a turn decides
+
+abbrev pub readingDone : Reading → ℕ → Bool → Seen → Decision
+readingDone Reading.Nothing place rest seen = record { answer = Answer.Refused Refusal.NoStep; left = seen }
+readingDone (Reading.Known step) place rest seen = decideOf step place rest seen
+
+abbrev pub slotDone : Trip → ℕ → Answer → Seen → Decision
+slotDone trip slot before seen =
+    record { answer = turnAnswer trip before seen; left = turnSeen trip slot seen }
+
+abbrev pub turnDone : Reading → Trip → ℕ → ℕ → Bool → Answer → Seen → Decision
+turnDone reading trip turn place rest before seen =
+    cond (eqb turn 0) (readingDone reading place rest seen) (slotDone trip (turn - 1) before seen)
+
+-- ---- the work on whole tables
+
+abbrev pub readingHead : Tables → Reading → Outcome
+readingHead t Reading.Nothing = record { answer = Answer.Refused Refusal.NoStep; tables = t }
+readingHead t (Reading.Known step) = headOf t step
+
+abbrev pub workTurn : Tables → Reading → ℕ → Outcome → Outcome
+workTurn t reading zero o = readingHead t reading
+workTurn t reading (suc slot) o = turnOf (readingLook reading .trip) slot o
+
+-- before the first turn there is no answer yet; what stands there does not matter
+unfoldable pub workUpTo : Tables → Reading → ℕ → Outcome
+workUpTo t reading zero = record { answer = Answer.Refused Refusal.NoStep; tables = t }
+workUpTo t reading (suc n) = workTurn t reading n (workUpTo t reading n)

@@ -1,0 +1,130 @@
+// A record's work for a runner that holds the tables itself, turn by turn.
+// The first turn is the step's own; for a sweep or a crash turn k + 1 is that of slot k. Every turn looks, decides and stores in the same way.
+use decisions::decide::decide;
+use decisions::turns::turn_answer;
+use decisions::turns::turn_seen;
+use parts::passages::is_empty;
+use places::look::look_of;
+use places::look::looks_both;
+use places::look::looks_site;
+use rules::answers::Answer;
+use rules::answers::Decision;
+use rules::answers::Look;
+use rules::answers::MailAt;
+use rules::answers::Refusal;
+use rules::answers::Seen;
+use rules::answers::Trip;
+use rules::steps::Reading;
+use rules::tables::Message;
+use rules::tables::Visit;
+ghost use Prim.Native.Nat.{_≤_, _<_};
+ghost use mathlib.Core.Path.{_≡_};
+ghost use mathlib.Core.Bool.{_||_};
+ghost use Rattle.rules.specs.Sane.{Sane};
+ghost use Rattle.rules.specs.Machine.{isMessageOf};
+ghost use Rattle.decisions.specs.Turns.{tripValue};
+ghost use Rattle.work.specs.Work.{readingLook, tripSite, slotLook, turnLook, readingDone, slotDone, turnDone};
+
+// Where the first turn looks. A record that stands for no step looks at site 0, and leaves what it sees.
+pub fn reading_look(reading: Reading) -> Look
+    ensures { λ r. ⌜ r ≡ readingLook reading ⌝ }
+{
+    match reading {
+        Reading::Nothing => looks_site(0, Trip::Nowhere),
+        Reading::Known(step) => look_of(step),
+    }
+}
+
+fn trip_site(trip: Trip) -> u8
+    ensures { λ r. ⌜ r ≡ tripSite trip ⌝ }
+{
+    match trip {
+        Trip::Nowhere => 0,
+        Trip::Sweep(site) => site,
+        Trip::Crash(site) => site,
+    }
+}
+
+// Where the turn of a slot looks.
+fn slot_look(trip: Trip, slot: usize) -> Look
+    requires { ⌜ slot < 16 ⌝ }
+    ensures { λ r. ⌜ r ≡ slotLook trip slot ⌝ }
+{
+    let site = trip_site(trip);
+    looks_both(MailAt::Nowhere, slot as u16, site)
+}
+
+// Where a turn looks, if the first one looks so.
+pub fn turn_look(look: Look, turn: usize) -> Look
+    requires { ⌜ turn ≤ 16 ⌝ }
+    ensures { λ r. ⌜ r ≡ turnLook look turn ⌝ }
+{
+    let trip = look.trip;
+    if turn == 0 {
+        look
+    } else {
+        slot_look(trip, turn - 1)
+    }
+}
+
+pub fn is_message_of(slot: usize, m: Message) -> bool
+    ensures { λ r. ⌜ r ≡ isMessageOf slot m ⌝ }
+{
+    let body = m.body;
+    !is_empty(body) & ((m.handle % 16) as usize == slot)
+}
+
+// One step of the search for what remains of a passage slot: so far, or this message of it, or this visit of it.
+pub fn rest_next(rest: bool, slot: usize, m: Message, v: Visit) -> bool
+    ensures { λ r. ⌜ r ≡ (rest || (isMessageOf slot m || v .there)) ⌝ }
+{
+    let there = v.there;
+    rest | (is_message_of(slot, m) | there)
+}
+
+// What a record decides in its first turn.
+fn decide_reading(reading: Reading, place: usize, rest: bool, seen: Seen) -> Decision
+    requires { ⌜ Sane seen ⌝ }
+    ensures { λ r. ⌜ r ≡ readingDone reading place rest seen ⌝ }
+{
+    match reading {
+        Reading::Nothing => Decision {
+            answer: Answer::Refused(Refusal::NoStep),
+            left: seen,
+        },
+        Reading::Known(step) => decide(step, place, rest, seen),
+    }
+}
+
+// What the turn of a slot decides, after this answer.
+fn decide_slot(trip: Trip, slot: usize, before: Answer, seen: Seen) -> Decision
+    requires { ⌜ (slot < 16) × (tripValue trip before ≤ 1000) ⌝ }
+    ensures { λ r. ⌜ r ≡ slotDone trip slot before seen ⌝ }
+{
+    let answer = turn_answer(trip, before, seen);
+    let left = turn_seen(trip, slot, seen);
+    Decision {
+        answer: answer,
+        left: left,
+    }
+}
+
+// What a turn decides.
+pub fn decide_turn(
+    reading: Reading,
+    trip: Trip,
+    turn: usize,
+    place: usize,
+    rest: bool,
+    before: Answer,
+    seen: Seen,
+) -> Decision
+    requires { ⌜ (turn ≡ 0 → Sane seen) × (turn ≤ 16) × (tripValue trip before ≤ turn) ⌝ }
+    ensures { λ r. ⌜ r ≡ turnDone reading trip turn place rest before seen ⌝ }
+{
+    if turn == 0 {
+        decide_reading(reading, place, rest, seen)
+    } else {
+        decide_slot(trip, turn - 1, before, seen)
+    }
+}
