@@ -142,7 +142,7 @@ stored-not-back t at left z h i s =
     (λ n. rw (site-after-stored-other t at left s n) (omega arith))
     (same-or-other s (at .site))
 
-head-not-back :
+pub head-not-back :
     (t : Tables) (step : Step) → Sized t → (s : ℕ) → siteAt t s .clock ≤ siteAt (headOf t step .tables) s .clock
 unfolding headOf
 head-not-back t step z =
@@ -155,7 +155,7 @@ head-not-back t step z =
     (decided-not-back step _ _ (seenOf t (placesOf t (lookOf step))))
 
 -- each slot of a sweep or a crash stores the site back
-swept-site : (site slot : ℕ) (seen : Seen) → sweptSlot site slot seen .site ≡ seen .site
+pub swept-site : (site slot : ℕ) (seen : Seen) → sweptSlot site slot seen .site ≡ seen .site
 unfolding sweptSlot
 swept-site site slot seen = ⊎-elim (λ e. rw e) (λ e. rw e) (either (isSwept seen))
 

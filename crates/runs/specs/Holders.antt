@@ -600,8 +600,11 @@ held-start =
 pub held-step : (t : Tables) (step : Step) → Held t → Held (stepOf t step .tables)
 held-step t step k = step-holds Held (λ u s h e. held-head u s h) held-turn t step k
 
+pub held-from : (t : Tables) (ss : List Step) → Held t → Held (runOf t ss)
+held-from = run-holds Held (λ u s h e. held-head u s h) held-turn
+
 pub held-run : (ss : List Step) → Held (runOf start ss)
-held-run ss = run-holds Held (λ u s h e. held-head u s h) held-turn start ss held-start
+held-run ss = held-from start ss held-start
 
 -- who holds an object has a visit at its site
 pub held-has-visit :

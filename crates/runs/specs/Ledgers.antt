@@ -212,7 +212,7 @@ turn-kept (Trip.Crash site) slot o ls i k =
 -- ---- and holds at the start
 
 -- every place of a repeated record holds it, and so does a place past the end, if what stands there is as good
-repeat-has :
+pub repeat-has :
     {A : Type 0} (P : A → Type 0) (n : ℕ) (x d : A) → P x → P d → (i : ℕ) → P (getD (replicate n x) i d)
 repeat-has P zero x d h k zero = k
 repeat-has P zero x d h k (suc i) = k

@@ -35,3 +35,12 @@ pub mod Holders
 pub mod Ledgers
 pub mod TimeRule
 pub mod RunLaws
+-- Demand 3: its definitions, what is watched of an orphan along a run, the sweep, and the theorem.
+pub mod Orphans
+pub mod Watch
+pub mod WatchKept
+pub mod WatchSteps
+pub mod Counted
+pub mod Swept
+pub mod OrphansGone
+pub mod DemandThree

@@ -26,7 +26,7 @@ use Rattle.runs.specs.StationFits.{struck-kept}
 
 -- ---- what the checks say
 
-free-says : (s : Status) → isFree s ≡ true → s ≡ Status.Free
+pub free-says : (s : Status) → isFree s ≡ true → s ≡ Status.Free
 free-says Status.Free e = refl
 free-says Status.Active e = absurd (false≢true e)
 free-says Status.Committing e = absurd (false≢true e)

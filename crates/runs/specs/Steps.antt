@@ -61,6 +61,18 @@ turn-count-most (Trip.Crash site) a = most (isAccepted a)
     most true = omega arith
     most false = omega arith
 
+-- an accepted step's own store was accepted
+pub head-accepted :
+    (t : Tables) (step : Step) → isAccepted (stepOf t step .answer) ≡ true → isAccepted (headOf t step .answer) ≡ true
+unfolding stepOf stepInRangeOf
+head-accepted t step e =
+    ⊎-elim
+    (λ q.
+    sym (turns-keep (lookOf step .trip) (headOf t step) (turnCount (lookOf step .trip) (headOf t step .answer)))
+    ∙ (rw q at e))
+    (λ q. absurd (false≢true (rw q at e)))
+    (either (inRange t))
+
 -- ---- an invariant that every accepted store keeps is kept by every step and in every run
 
 module _ {G : Type 0} (head : Tables → Step → G → G) (turn : Trip → ℕ → Tables → G → G) (Good : Tables → G → Type 0)
@@ -100,8 +112,7 @@ module _ {G : Type 0} (head : Tables → Step → G → G) (turn : Trip → ℕ 
       step
       g
       k
-      (sym (turns-keep (lookOf step .trip) (headOf t step) (turnCount (lookOf step .trip) (headOf t step .answer)))
-      ∙ (rw q at e)))))
+      (head-accepted t step e))))
       (λ q. absurd (false≢true (rw q at e)))
       (either (inRange t))
 

@@ -1,0 +1,108 @@
+-- Demand 3 in definitions: what it says of a moment in a run, from the list of accepted steps and from the tables. Assumes nothing.
+use Prim.Native.Nat.{ℕ, _+_, max}
+use mathlib.Core.Bool.{Bool, true, false, cond, not, _&&_, _||_}
+use mathlib.Core.List.{List, [], _∷_}
+use lib.Dec.{eqb}
+use Rattle.rules.specs.Loops.{oneIf, mostUpTo}
+use Rattle.rules.specs.Tables.{visitAt, messageAt, slotOf}
+use Rattle.rules.specs.Runs.{Entry}
+use Rattle.rules.specs.Machine.{isMessageOf}
+use Rattle.runs.specs.Types.{Visit, Asked, Told, Body, Message, Tables, Step}
+
+-- ---- the past, from the list of accepted steps
+
+-- whether a commit round (an accepted prepare) has begun since the passage's begin, where before said so until now
+abbrev pub commitAfter : ℕ → Bool → Step → Bool
+commitAfter p before (Step.Tick site n) = before
+commitAfter p before (Step.Begin home slot q r) = cond (eqb (slotOf slot) p) false before
+commitAfter p before (Step.Invoke h site write object value) = before
+commitAfter p before (Step.Refresh h q r) = before
+commitAfter p before (Step.Terminate h) = before
+commitAfter p before (Step.Prepare h) = cond (eqb (slotOf h) p) true before
+commitAfter p before (Step.Ask h site) = before
+commitAfter p before (Step.Close h) = before
+commitAfter p before (Step.Tell h site) = before
+commitAfter p before (Step.Abort h) = before
+commitAfter p before (Step.Deliver m) = before
+commitAfter p before (Step.Drop m) = before
+commitAfter p before (Step.Sweep site) = before
+commitAfter p before (Step.Crash site) = before
+commitAfter p before (Step.Recover site) = before
+commitAfter p before (Step.Retire h) = before
+
+-- "never began a commit round (an accepted prepare)": this is false of the list so far
+unfoldable pub beganCommit : ℕ → Bool → List Entry → Bool
+beganCommit p before [] = before
+beganCommit p before (e ∷ es) = beganCommit p (commitAfter p before (e .step)) es
+
+abbrev pub retires : ℕ → Step → Bool
+retires p (Step.Tick site n) = false
+retires p (Step.Begin home slot q r) = false
+retires p (Step.Invoke h site write object value) = false
+retires p (Step.Refresh h q r) = false
+retires p (Step.Terminate h) = false
+retires p (Step.Prepare h) = false
+retires p (Step.Ask h site) = false
+retires p (Step.Close h) = false
+retires p (Step.Tell h site) = false
+retires p (Step.Abort h) = false
+retires p (Step.Deliver m) = false
+retires p (Step.Drop m) = false
+retires p (Step.Sweep site) = false
+retires p (Step.Crash site) = false
+retires p (Step.Recover site) = false
+retires p (Step.Retire h) = eqb (slotOf h) p
+
+-- "while it is not retired": no accepted retire of the slot in the list
+unfoldable pub isRetired : ℕ → List Entry → Bool
+isRetired p [] = false
+isRetired p (e ∷ es) = retires p (e .step) || isRetired p es
+
+-- "accepted steps at that station"
+unfoldable pub stepsAt : ℕ → List Entry → ℕ
+stepsAt s [] = 0
+stepsAt s (e ∷ es) = oneIf (e .acted && eqb (e .places .site) s) + stepsAt s es
+
+-- ---- T: "the latest quiesce or release time in that passage's visits and messages then, or 0 if there are none"
+
+abbrev pub visitLatest : Visit → ℕ
+visitLatest v = cond (v .there) (max (v .quiesce) (v .release)) 0
+
+-- the times that a message may still bring to a visit: those of a call, the new release of a refresh's phase 1, the new quiesce of its phase 2
+abbrev pub bodyLatest : Body → ℕ
+bodyLatest Body.Empty = 0
+bodyLatest (Body.Call c) = max (c .quiesce) (c .release)
+bodyLatest (Body.PhaseOne n (Asked.Refresh r)) = r
+bodyLatest (Body.PhaseOne n Asked.Terminate) = 0
+bodyLatest (Body.PhaseOne n Asked.Prepare) = 0
+bodyLatest (Body.PhaseTwo n (Told.Refresh q)) = q
+bodyLatest (Body.PhaseTwo n (Told.Terminate m)) = 0
+bodyLatest (Body.PhaseTwo n Told.Prepare) = 0
+bodyLatest (Body.Answer n received q) = 0
+
+-- every quiesce or release time in a message: an answer's quiesce time and a terminate's M too
+abbrev pub bodyAll : Body → ℕ
+bodyAll Body.Empty = 0
+bodyAll (Body.Call c) = max (c .quiesce) (c .release)
+bodyAll (Body.PhaseOne n (Asked.Refresh r)) = r
+bodyAll (Body.PhaseOne n Asked.Terminate) = 0
+bodyAll (Body.PhaseOne n Asked.Prepare) = 0
+bodyAll (Body.PhaseTwo n (Told.Refresh q)) = q
+bodyAll (Body.PhaseTwo n (Told.Terminate m)) = m
+bodyAll (Body.PhaseTwo n Told.Prepare) = 0
+bodyAll (Body.Answer n received q) = q
+
+abbrev pub mailLatest : (Body → ℕ) → ℕ → Message → ℕ
+mailLatest of p m = cond (isMessageOf p m) (of (m .body)) 0
+
+abbrev pub latestBy : (Body → ℕ) → Tables → ℕ → ℕ
+latestBy of t p =
+    max (mostUpTo (λ s. visitLatest (visitAt t s p)) 8) (mostUpTo (λ m. mailLatest of p (messageAt t m)) 32)
+
+-- the smaller reading of T, for which the demand says more
+unfoldable pub latest : Tables → ℕ → ℕ
+latest t p = latestBy bodyLatest t p
+
+-- the larger reading
+unfoldable pub latestOfAll : Tables → ℕ → ℕ
+latestOfAll t p = latestBy bodyAll t p
