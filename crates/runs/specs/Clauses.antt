@@ -3,13 +3,12 @@ use Prim.Native.Nat.{ℕ, _+_, _<_, _≤_}
 use mathlib.Core.Path.{_≡_}
 use mathlib.Core.Logic.{_≢_, _⊎_}
 use mathlib.Core.Bool.{Bool, true, false, cond}
-use mathlib.Core.List.{List}
 use lib.Dec.{eqb}
 use lib.ListN.{length, getD}
 use Rattle.rules.specs.Loops.{oneIf, sumUpTo}
 use Rattle.rules.specs.Tables.{noRound}
 use Rattle.rules.specs.Parts.{isOver, isEmpty, figuresAt, hasAnswered, largestQuiesce, askedOf}
-use Rattle.runs.specs.Types.{Figures, Kind, Phase, Round, Status, Passage, Visit, Call, Asked, Told, Body, Message}
+use Rattle.runs.specs.Types.{Figures, Kind, Phase, Round, Status, Call, Asked, Told, Body, Message}
 use Rattle.runs.specs.View.{View, Past, Ledger}
 
 abbrev pub isRefresh : Kind → Bool

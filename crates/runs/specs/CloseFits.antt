@@ -1,22 +1,22 @@
 -- The step close keeps the invariant: the passage part, then the home visit's phase 2 part. Assumes nothing.
-use Prim.Native.Nat.{ℕ, _+_, _%_, _<_, _≤_, min, max}
+use Prim.Native.Nat.{ℕ, _%_, _≤_}
 use native.Mathlib.Omega.{arith}
 use mathlib.Core.Path.{_≡_, refl, sym, ap, _∙_, subst}
-use mathlib.Core.Logic.{_≢_, ⊎-elim, _⊎_, inl, inr}
-use mathlib.Core.Bool.{Bool, true, false, cond, not, _&&_, _||_, true≢false, false≢true}
+use mathlib.Core.Logic.{_≢_, _⊎_, inl, inr}
+use mathlib.Core.Bool.{Bool, true, false, cond, true≢false, false≢true}
 use Rattle.rules.specs.LoopsLaws.{either, not-false}
-use Rattle.rules.specs.Tables.{siteAt, passageAt, visitAt, messageAt, noVisit}
+use Rattle.rules.specs.Tables.{siteAt, passageAt, messageAt, noVisit}
 use Rattle.rules.specs.AnswersLaws.{Fine}
-use Rattle.rules.specs.Parts.{isPhaseOne, isPhaseTwo, isClosed, nextClock, largestQuiesce, toldOf, toldVisit, whereThere}
+use Rattle.rules.specs.Parts.{isPhaseOne, isClosed, nextClock, largestQuiesce, toldOf, toldVisit, whereThere}
 use Rattle.rules.specs.Rounds.{closeChecks, roundTold, closedPassage, closeDone}
 use Rattle.rules.specs.Machine.{lookOf, placesOf, seenOf}
 use Rattle.rules.specs.Ranges.{inRange, phaseFits}
 use Rattle.rules.specs.RangesLaws.{placed-places, seen-in-range}
-use Rattle.rules.specs.RangesFits.{PassageFits, RoundFits, SeenFits, seen-says}
-use Rattle.runs.specs.Types.{Kind, Phase, Passage, Visit, Told, Message, Tables, Step, Places, Seen}
-use Rattle.runs.specs.Put.{put, put-same, put-back}
+use Rattle.rules.specs.RangesFits.{seen-says}
+use Rattle.runs.specs.Types.{Kind, Phase, Visit, Tables, Step}
+use Rattle.runs.specs.Put.{put-back}
 use Rattle.runs.specs.View.{View, Ledger, viewOf, noted}
-use Rattle.runs.specs.Clauses.{isRefresh, isBinding, Below, Quiet, Holds}
+use Rattle.runs.specs.Clauses.{isBinding, Holds}
 use Rattle.runs.specs.VisitKept.{withVisit, withLast}
 use Rattle.runs.specs.TimesKept.{told-refresh-kept, told-terminate-kept}
 use Rattle.runs.specs.ClosedKept.{closedView, closed-kept, closed-is-quiet, closed-largest}

@@ -2,16 +2,16 @@
 use Prim.Native.Nat.{ℕ, _<_, _≤_}
 use native.Mathlib.Omega.{arith}
 use mathlib.Core.Path.{_≡_, refl, sym, ap, _∙_}
-use mathlib.Core.Logic.{_≢_, ⊎-elim, inl, inr}
+use mathlib.Core.Logic.{_≢_, ⊎-elim}
 use mathlib.Core.Bool.{true, true≢false, false≢true}
 use lib.Dec.{ltb}
 use borrow.Author.Tests.{ltb-true, ltb-false}
 use Rattle.rules.specs.LoopsLaws.{either, most-at}
 use Rattle.rules.specs.Parts.{isFree, isOver, isPhaseOne, withPhase, figuresAt, hasAnswered, ifAnswered, isClosed, largestQuiesce, toldOf, toldStatus}
 use Rattle.rules.specs.Rounds.{roundTold, closedPassage}
-use Rattle.runs.specs.Types.{Figures, Kind, Phase, Status, Call, Told, Body, Message}
+use Rattle.runs.specs.Types.{Kind, Phase, Status, Call, Told, Body}
 use Rattle.runs.specs.View.{View, Ledger}
-use Rattle.runs.specs.Clauses.{isRefresh, isBinding, Below, QuietMail, Quiet, FigureFine, EdgeFine, SiteFine, CallFine, ToldFine, BodyFine, Holds}
+use Rattle.runs.specs.Clauses.{isRefresh, isBinding, Below, QuietMail, Quiet, BodyFine, Holds}
 use Rattle.runs.specs.RoundKept.{restated-kept}
 use Rattle.runs.specs.Closing.{closing-refresh, closing-making, closing-binding, closing-no-call, call-fine}
 

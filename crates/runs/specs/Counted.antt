@@ -1,9 +1,9 @@
 -- Accepted steps at a station drive its clock: each adds at least 1. Assumes nothing.
 use Prim.Native.Nat.{ℕ, _+_, _-_, _≤_}
 use native.Mathlib.Omega.{arith}
-use mathlib.Core.Path.{_≡_, refl, sym, ap, _∙_, subst}
-use mathlib.Core.Logic.{⊎-elim, _⊎_, inl, inr}
-use mathlib.Core.Bool.{Bool, true, false, cond, _&&_, true≢false}
+use mathlib.Core.Path.{_≡_, subst}
+use mathlib.Core.Logic.{⊎-elim, _⊎_}
+use mathlib.Core.Bool.{true, false, _&&_}
 use mathlib.Core.List.{List, [], _∷_}
 use lib.Dec.{eqb}
 use borrow.Author.Tests.{eqb-true}
@@ -13,7 +13,7 @@ use Rattle.rules.specs.Tables.{siteAt}
 use Rattle.rules.specs.Answers.{isAccepted}
 use Rattle.rules.specs.StoredLaws.{Sized}
 use Rattle.rules.specs.Machine.{lookOf, placesOf, stepOf}
-use Rattle.rules.specs.Runs.{runOf, Entry, actsAtSite, entryOf, entriesOf, historyOf}
+use Rattle.rules.specs.Runs.{runOf, actsAtSite, entryOf, historyOf}
 use Rattle.runs.specs.Types.{Tables, Step}
 use Rattle.runs.specs.Orphans.{stepsAt}
 use Rattle.runs.specs.Sizes.{sized-step}

@@ -1,8 +1,8 @@
 -- Demand 3, as the lockmaster says it, and its proof from what is watched along the run. Assumes nothing.
-use Prim.Native.Nat.{ℕ, zero, suc, _+_, _-_, _<_, _≤_, max}
+use Prim.Native.Nat.{ℕ, zero, suc, _+_, _-_, _<_, _≤_}
 use native.Mathlib.Omega.{arith}
-use mathlib.Core.Path.{_≡_, refl, sym, ap, _∙_, subst}
-use mathlib.Core.Logic.{_≢_, ⊎-elim, _⊎_, inl, inr}
+use mathlib.Core.Path.{_≡_, refl, sym, ap, _∙_}
+use mathlib.Core.Logic.{_≢_, inl}
 use mathlib.Core.Bool.{Bool, true, false, cond, true≢false, false≢true}
 use mathlib.Core.List.{List, [], _∷_}
 use Rattle.rules.specs.Loops.{mostUpTo}
@@ -10,16 +10,16 @@ use Rattle.rules.specs.Tables.{start, siteAt, objectAt, passageAt, visitAt, mes
 use Rattle.rules.specs.Answers.{isAccepted}
 use Rattle.rules.specs.StoredLaws.{Sized}
 use Rattle.rules.specs.Machine.{headOf, isMessageOf, stepOf}
-use Rattle.rules.specs.Runs.{runOf, historyOf}
+use Rattle.rules.specs.Runs.{runOf, runRecordsOf, historyOf}
 use Rattle.rules.specs.declared.tables.Holder.{Holder}
 use Rattle.runs.specs.Types.{Status, Asked, Told, Body, Message, Tables, Step}
 use Rattle.runs.specs.View.{viewOf}
-use Rattle.runs.specs.Steps.{ghostRun, head-accepted}
+use Rattle.runs.specs.Steps.{ghostRun, head-accepted, stepsOf, records-are-steps}
 use Rattle.runs.specs.Sizes.{sized-start, sized-run, sized-from, sized-step}
 use Rattle.runs.specs.Holders.{Held, held-run, held-step, held-from}
-use Rattle.runs.specs.Counted.{history-accepted, steps-drive}
+use Rattle.runs.specs.Counted.{steps-drive}
 use Rattle.runs.specs.Swept.{Ripe, swept-away, swept-clock}
-use Rattle.runs.specs.Orphans.{beganCommit, isRetired, stepsAt, visitLatest, bodyLatest, bodyAll, mailLatest, latest, latestOfAll}
+use Rattle.runs.specs.Orphans.{beganCommit, isRetired, stepsAt, bodyLatest, bodyAll, mailLatest, latest, latestOfAll}
 use Rattle.runs.specs.Watch.{Known, Plain, Bounded, Watch}
 use Rattle.runs.specs.WatchSteps.{knownHead, knownTurn, knownNothing, watch-head, watch-run, watch-start}
 use Rattle.runs.specs.OrphansGone.{known-commit, known-watched, known-cleared, bounded-now}
@@ -45,12 +45,13 @@ pub record Released (t : Tables) (slot site T : ℕ) : Type 0 where
       (after later : List Step) → isRetired slot (historyOf t after) ≡ false
       → isAccepted (stepOf (runOf t after) (Step.Sweep site) .answer) ≡ true
       → T ≤ siteAt (stepOf (runOf t after) (Step.Sweep site) .tables) site .clock
-      → isRetired slot (historyOf (stepOf (runOf t after) (Step.Sweep site) .tables) later) ≡ false
+      → (kept : isRetired slot (historyOf (stepOf (runOf t after) (Step.Sweep site) .tables) later) ≡ false)
       → NothingLeft (runOf (stepOf (runOf t after) (Step.Sweep site) .tables) later) slot site
-  -- "Where the clock is behind T, at most T minus the clock accepted steps at that station bring it to T."
+  -- "Where the clock is behind T, at most T minus the clock accepted steps at that station bring it to T": at any later moment too
   pub in-time :
-      (after : List Step) → T - siteAt t site .clock ≤ stepsAt site (historyOf t after)
-      → T ≤ siteAt (runOf t after) site .clock
+      (after later : List Step)
+      → T - siteAt (runOf t after) site .clock ≤ stepsAt site (historyOf (runOf t after) later)
+      → T ≤ siteAt (runOf (runOf t after) later) site .clock
 
 -- ---- no visit, no hold
 
@@ -212,6 +213,16 @@ module _ (before : List Step) (slot site : ℕ) (slots : slot < 16) (sites : sit
         (known-watched slot Swept later Cleared refl n)
         .0)
 
+  -- accepted steps at the station drive its clock, from any moment after this one
+  drive :
+      (T : ℕ) (after later : List Step)
+      → T - siteAt (runOf (runOf start before) after) site .clock ≤ stepsAt site (historyOf (runOf (runOf start before) after) later)
+      → T ≤ siteAt (runOf (runOf (runOf start before) after) later) site .clock
+  drive T after later i =
+      let d : siteAt (runOf Now after) site .clock + stepsAt site (historyOf (runOf Now after) later) ≤ siteAt (runOf (runOf Now after) later) site .clock =
+      steps-drive (runOf Now after) later site (sized-from Now after (sized-run before)) in
+      omega arith
+
   -- ---- demand 3, for the smaller T
 
   pub demand-three : Released (runOf start before) slot site (latest (runOf start before) slot)
@@ -219,11 +230,7 @@ module _ (before : List Step) (slot site : ℕ) (slots : slot < 16) (sites : sit
       record {
         swept = swept-nothing;
         never-again = λ after later s a r n. later-nothing after s a r later n;
-        in-time =
-            λ after i.
-            let d : siteAt Now site .clock + stepsAt site (historyOf Now after) ≤ siteAt (runOf Now after) site .clock =
-            steps-drive Now after site (sized-run before) in
-            omega arith;
+        in-time = drive (latest Now slot);
       }
 
   -- ---- and for the larger one, which is never earlier
@@ -238,9 +245,16 @@ module _ (before : List Step) (slot site : ℕ) (slots : slot < 16) (sites : sit
         never-again =
             λ after later s a (r : latestOfAll Now slot ≤ siteAt (stepOf (runOf Now after) (Step.Sweep site) .tables) site .clock) n.
             demand-three .never-again after later s a (omega arith) n;
-        in-time =
-            λ after (j : latestOfAll Now slot - siteAt Now site .clock ≤ stepsAt site (historyOf Now after)).
-            let d : siteAt Now site .clock + stepsAt site (historyOf Now after) ≤ siteAt (runOf Now after) site .clock =
-            steps-drive Now after site (sized-run before) in
-            omega arith;
+        in-time = drive (latestOfAll Now slot);
       }
+
+-- ---- and for runs of records: they are runs of the steps that they stand for
+
+pub demand-three-records :
+    (records : List (List ℕ)) (slot site : ℕ) → slot < 16 → site < 8
+    → passageAt (runRecordsOf start records) slot .status ≡ Status.Aborted
+    → beganCommit slot false (historyOf start (stepsOf records)) ≡ false
+    → Released (runRecordsOf start records) slot site (latest (runRecordsOf start records) slot)
+demand-three-records records slot site slots sites aborted never =
+    let e : runRecordsOf start records ≡ runOf start (stepsOf records) = records-are-steps start records in
+    rw e (demand-three (stepsOf records) slot site slots sites (rw e at aborted) never)

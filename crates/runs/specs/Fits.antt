@@ -1,12 +1,12 @@
 -- What the steps' own laws share: the clock moves first, the ledger gets its news, a message stays. Assumes nothing.
-use Prim.Native.Nat.{ℕ, _+_, _<_, _≤_}
+use Prim.Native.Nat.{ℕ, _≤_}
 use native.Mathlib.Omega.{arith}
 use mathlib.Core.Path.{_≡_, refl, sym, ap, _∙_, subst}
-use mathlib.Core.Logic.{_≢_, ⊎-elim, _⊎_, inl, inr}
-use mathlib.Core.Bool.{Bool, true, false, cond, true≢false, false≢true}
+use mathlib.Core.Logic.{_≢_, _⊎_, inl}
+use mathlib.Core.Bool.{true, false, cond, true≢false}
 use Rattle.rules.specs.Parts.{isFree}
-use Rattle.runs.specs.Types.{Status, Passage, Visit, Body, Message}
-use Rattle.runs.specs.Put.{put, put-same, put-all, put-back}
+use Rattle.runs.specs.Types.{Status, Passage, Visit, Message}
+use Rattle.runs.specs.Put.{put, put-all, put-back}
 use Rattle.runs.specs.View.{View, Ledger, noLedger}
 use Rattle.runs.specs.Clauses.{Quiet, Holds}
 use Rattle.runs.specs.Shrunk.{around, shrunk}

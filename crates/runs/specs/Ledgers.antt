@@ -1,35 +1,32 @@
 -- The ledgers along a run, and the invariant of every slot in every run. Assumes nothing.
-use Prim.Native.Nat.{ℕ, zero, suc, _<_, _≤_, _+_, _*_}
+use Prim.Native.Nat.{ℕ, zero, suc, _<_}
 use native.Mathlib.Omega.{arith}
-use mathlib.Core.Path.{_≡_, refl, sym, ap, _∙_, subst}
-use mathlib.Core.Logic.{⊎-elim, _⊎_, inl, inr}
-use mathlib.Core.Bool.{Bool, true, false, cond, not, _||_, true≢false, false≢true}
+use mathlib.Core.Path.{_≡_, refl, ap}
+use mathlib.Core.Bool.{true, false, not, _||_}
 use mathlib.Core.List.{List}
-use lib.ListN.{length, getD, replicate, getD-replicate}
-use Rattle.rules.specs.Loops.{someUpTo}
-use Rattle.rules.specs.Tables.{start, siteAt, passageAt, visitAt, messageAt, visitPlace, pastPassage, pastVisit, pastMessage, noVisit, noMessage, noRound, freeSlot}
-use Rattle.rules.specs.Answers.{isAccepted, firstOf, settleOf}
-use Rattle.rules.specs.AnswersLaws.{Fine, accepted-fine, settle-accepted}
+use lib.ListN.{getD, replicate, getD-replicate}
+use Rattle.rules.specs.Tables.{start, passageAt, visitPlace, pastPassage, pastVisit, pastMessage, noVisit, noMessage, freeSlot}
+use Rattle.rules.specs.Answers.{isAccepted, settleOf}
+use Rattle.rules.specs.AnswersLaws.{accepted-fine}
 use Rattle.rules.specs.Ranges.{inRange}
 use Rattle.rules.specs.RangesLaws.{placed-places, placed-slots, seen-in-range, stored-in-range}
 use Rattle.rules.specs.RangesKept.{decided-in-range, swept-in-range, crashed-in-range, start-in-range}
 use Rattle.rules.specs.StoredLaws.{Sized, sized-after-stored}
-use Rattle.rules.specs.Checks.{badHandle, badTimes, noMail}
+use Rattle.rules.specs.Checks.{badHandle, badTimes}
 use Rattle.rules.specs.Parts.{isActive, isAborted, isRunning}
-use Rattle.rules.specs.Stations.{tickOf, tickDone, tickChecks, sweepOf, sweepDone, crashOf, crashDone, recoverOf, recoverDone, sweptSlot, crashedSlot}
-use Rattle.rules.specs.Passages.{beginOf, beginDone, beginChecks, abortOf, abortDone, retireOf, retireDone, retireChecks}
-use Rattle.rules.specs.Rounds.{refreshOf, terminateOf, prepareOf, openOf, openDone, openChecks, askOf, askDone, askChecks, closeOf, closeDone, closeChecks, tellOf, tellDone, tellChecks}
-use Rattle.rules.specs.Calls.{invokeOf, invokeDone, invokeChecks, dropOf, dropDone, deliverOf}
-use Rattle.rules.specs.Machine.{looksHome, lookOf, placesOf, seenOf, remains, decideOf, stored, headOf, slotPlaces, sweepTurn, crashTurn, turnOf}
+use Rattle.rules.specs.Stations.{tickOf, tickDone, sweepOf, sweepDone, crashOf, crashDone, recoverOf, recoverDone, sweptSlot, crashedSlot}
+use Rattle.rules.specs.Passages.{beginOf, beginDone, abortOf, abortDone, retireOf, retireDone}
+use Rattle.rules.specs.Rounds.{refreshOf, terminateOf, prepareOf, openOf, openDone, askOf, askDone, closeOf, closeDone, tellOf, tellDone}
+use Rattle.rules.specs.Calls.{invokeOf, invokeDone, dropOf, dropDone}
+use Rattle.rules.specs.Machine.{lookOf, placesOf, seenOf, remains, decideOf, headOf, slotPlaces, sweepTurn, crashTurn, turnOf}
 use Rattle.rules.specs.Runs.{runOf}
-use Rattle.runs.specs.Types.{Kind, Status, Phase, Passage, Visit, Body, Message, Tables, Step, Places, Seen, Decision, Outcome}
+use Rattle.runs.specs.Types.{Kind, Passage, Body, Tables, Step, Places, Seen, Decision, Outcome}
 use Rattle.rules.specs.declared.answers.Trip.{Trip}
-use Rattle.rules.specs.declared.answers.MailAt.{MailAt}
-use Rattle.runs.specs.View.{View, Ledger, mailOf, viewOf, noLedger}
+use Rattle.runs.specs.View.{Ledger, mailOf, viewOf, noLedger}
 use Rattle.runs.specs.Clauses.{Holds}
 use Rattle.runs.specs.LifeKept.{free-kept}
 use Rattle.runs.specs.Store.{nextLedgers, Fitting, fitting-kept}
-use Rattle.runs.specs.StationFits.{site-fits, same-fits, lost-fits, swept-fits, crashed-fits}
+use Rattle.runs.specs.StationFits.{site-fits, lost-fits, swept-fits, crashed-fits}
 use Rattle.runs.specs.LifeFits.{begin-fits, abort-fits, retire-fits}
 use Rattle.runs.specs.RoundFits.{refresh-fits, terminate-fits, prepare-fits, ask-fits, tell-fits}
 use Rattle.runs.specs.CloseFits.{close-fits}

@@ -34,6 +34,7 @@ pub mod Clocks
 pub mod Holders
 pub mod Ledgers
 pub mod TimeRule
+pub mod PrintedRuns
 pub mod RunLaws
 -- Demand 3: its definitions, what is watched of an orphan along a run, the sweep, and the theorem.
 pub mod Orphans

@@ -1,27 +1,27 @@
 -- Steps of a passage's life keep the invariant: begin, abort, retire. Assumes nothing.
-use Prim.Native.Nat.{ℕ, _+_, _%_, _<_, _≤_}
+use Prim.Native.Nat.{ℕ, _%_, _<_, _≤_}
 use native.Mathlib.Omega.{arith}
 use mathlib.Core.Path.{_≡_, refl, sym, ap, _∙_, subst}
-use mathlib.Core.Logic.{_≢_, ⊎-elim, _⊎_, inl, inr}
-use mathlib.Core.Bool.{Bool, true, false, cond, not, _&&_, _||_, true≢false, false≢true}
-use lib.Dec.{eqb, leb, ltb}
-use borrow.Author.Tests.{ltb-true, ltb-false}
+use mathlib.Core.Logic.{_≢_, ⊎-elim, _⊎_, inl}
+use mathlib.Core.Bool.{true, false, not, _||_, true≢false, false≢true}
+use lib.Dec.{ltb}
+use borrow.Author.Tests.{ltb-false}
 use Rattle.rules.specs.Loops.{someUpTo}
 use Rattle.rules.specs.LoopsLaws.{either, or-left, or-right, not-false, some-none}
 use Rattle.rules.specs.Limits.{timeMost}
-use Rattle.rules.specs.Tables.{siteAt, passageAt, visitAt, messageAt, noRound, freeSlot}
+use Rattle.rules.specs.Tables.{siteAt, passageAt, visitAt, messageAt, freeSlot}
 use Rattle.rules.specs.AnswersLaws.{Fine}
 use Rattle.rules.specs.Checks.{badSite, badTimes}
-use Rattle.rules.specs.Parts.{isFree, isEmpty, isOver, nextClock, abortedPassage, quieted, newVisit}
-use Rattle.rules.specs.Passages.{beginChecks, begunPassage, begun, beginDone, abortChecks, abortDone, retireChecks, retireDone, nextGeneration}
+use Rattle.rules.specs.Parts.{isFree, isEmpty, isOver, nextClock, newVisit}
+use Rattle.rules.specs.Passages.{beginChecks, begunPassage, beginDone, abortDone, retireChecks, retireDone, nextGeneration}
 use Rattle.rules.specs.Machine.{lookOf, placesOf, seenOf, isMessageOf, remains}
-use Rattle.runs.specs.Types.{Site, Status, Phase, Passage, Visit, Body, Message, Tables, Step, Places, Seen}
-use Rattle.runs.specs.Put.{put, put-same, put-all, put-back}
+use Rattle.runs.specs.Types.{Status, Body, Tables, Step}
+use Rattle.runs.specs.Put.{put, put-all}
 use Rattle.runs.specs.View.{View, Ledger, mailOf, viewOf, noLedger, noted, notedPast, firstSeen}
 use Rattle.runs.specs.Clauses.{Holds}
 use Rattle.runs.specs.LifeKept.{free-kept, begun-kept}
-use Rattle.runs.specs.Store.{nextLedger, leftView, Fitting}
-use Rattle.runs.specs.Fits.{moved, moved-kept, news-kept, mail-back}
+use Rattle.runs.specs.Store.{leftView, Fitting}
+use Rattle.runs.specs.Fits.{moved, moved-kept, mail-back}
 use Rattle.runs.specs.StationFits.{struck-kept}
 
 -- ---- what the checks say

@@ -1,17 +1,17 @@
 -- A passage begins; a slot is free. Assumes nothing.
-use Prim.Native.Nat.{ℕ, zero, suc, _+_, _<_, _≤_}
+use Prim.Native.Nat.{ℕ, zero, suc, _<_, _≤_}
 use native.Mathlib.Omega.{arith}
 use mathlib.Core.Path.{_≡_, refl, sym, ap, _∙_}
-use mathlib.Core.Logic.{_≢_, ⊎-elim, _⊎_, inl, inr}
-use mathlib.Core.Bool.{Bool, true, false, cond, true≢false, false≢true}
-use Rattle.rules.specs.Loops.{oneIf, sumUpTo}
-use Rattle.rules.specs.Tables.{noRound, freeSlot}
-use Rattle.rules.specs.Parts.{isFree, isEmpty, isPhaseTwo, hasAnswered, newVisit}
+use mathlib.Core.Logic.{_≢_, ⊎-elim, _⊎_}
+use mathlib.Core.Bool.{Bool, true, false, true≢false, false≢true}
+use Rattle.rules.specs.Loops.{sumUpTo}
+use Rattle.rules.specs.Tables.{noRound}
+use Rattle.rules.specs.Parts.{isFree, isEmpty, isPhaseTwo, newVisit}
 use Rattle.rules.specs.Passages.{begunPassage}
-use Rattle.runs.specs.Types.{Figures, Kind, Phase, Round, Status, Passage, Visit, Call, Told, Body, Message}
+use Rattle.runs.specs.Types.{Phase, Round, Status, Visit, Body}
 use Rattle.runs.specs.Put.{put, put-same, put-other, put-all, same-or-other}
 use Rattle.runs.specs.View.{View, Ledger, noLedger, firstSeen}
-use Rattle.runs.specs.Clauses.{isRefresh, isBinding, Below, Quiet, FigureFine, EdgeFine, SiteFine, BodyFine, Posted, PassageFine, FreeFine, isCallTo, callsTo, receivedBy, sentBy, Holds}
+use Rattle.runs.specs.Clauses.{isRefresh, Below, SiteFine, PassageFine, callsTo, receivedBy, Holds}
 use Rattle.runs.specs.Masks.{nobody-answers}
 
 -- a sum of nothing

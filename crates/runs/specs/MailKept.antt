@@ -1,17 +1,17 @@
 -- A message that is no call comes into a message slot: ask, tell, and the answer to a phase 1 message. Assumes nothing.
 use Prim.Native.Nat.{ℕ, _+_, _<_, _≤_}
 use native.Mathlib.Omega.{arith}
-use mathlib.Core.Path.{_≡_, refl, sym, ap, _∙_, subst}
+use mathlib.Core.Path.{_≡_, refl, sym, ap, _∙_}
 use mathlib.Core.Logic.{_≢_, ⊎-elim, _⊎_, inl, inr}
-use mathlib.Core.Bool.{Bool, true, false, cond, true≢false, false≢true}
+use mathlib.Core.Bool.{true, false, true≢false, false≢true}
 use lib.ListN.{getD}
 use Rattle.rules.specs.Loops.{oneIf, sumUpTo}
-use Rattle.rules.specs.Parts.{isEmpty, hasAnswered, askedOf, toldOf, largestQuiesce, plainMessage, answerMessage}
-use Rattle.rules.specs.Rounds.{askBody, tellBody, roundTold}
-use Rattle.runs.specs.Types.{Figures, Kind, Phase, Status, Visit, Call, Told, Body, Message}
-use Rattle.runs.specs.Put.{put, put-same, put-other, put-all, same-or-other}
-use Rattle.runs.specs.View.{View, Past, Ledger}
-use Rattle.runs.specs.Clauses.{isRefresh, isBinding, Below, QuietMail, Quiet, InAnswer, Figure, FigureFine, EdgeFine, SiteFine, CallFine, PhaseOneFine, LateFine, ToldFine, BodyFine, Posted, PassageFine, FreeFine, isCallTo, callsTo, receivedBy, sentBy, sentFigures, Holds}
+use Rattle.rules.specs.Parts.{hasAnswered, toldOf, largestQuiesce, plainMessage, answerMessage}
+use Rattle.rules.specs.Rounds.{askBody, tellBody}
+use Rattle.runs.specs.Types.{Figures, Kind, Phase, Status, Call, Body, Message}
+use Rattle.runs.specs.Put.{put, put-all}
+use Rattle.runs.specs.View.{View, Ledger}
+use Rattle.runs.specs.Clauses.{isRefresh, isBinding, Below, QuietMail, Quiet, InAnswer, Figure, FigureFine, EdgeFine, SiteFine, ToldFine, BodyFine, Posted, isCallTo, callsTo, receivedBy, sentBy, Holds}
 use Rattle.runs.specs.Shrunk.{around, sum-le, body-around, passage-around, site-around}
 
 -- the view with this message at slot k

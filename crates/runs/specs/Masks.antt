@@ -1,20 +1,17 @@
 -- The answered mask: which bit an answer sets, and which it leaves. Assumes nothing.
-use Prim.Native.Nat.{ℕ, _+_, _*_, _/_, _%_, _^_, _<_, _≤_, max}
+use Prim.Native.Nat.{ℕ, _+_, _*_, _/_, _%_, _^_, _<_, max}
 use native.Mathlib.Omega.{arith}
 use native.Mathlib.Nat.{zero-div}
 use mathlib.Core.Path.{_≡_, refl, sym, ap, _∙_}
-use mathlib.Core.Logic.{_≢_, ⊎-elim, inl, inr}
-use mathlib.Core.Bool.{Bool, true, false, cond}
+use mathlib.Core.Logic.{_≢_}
+use mathlib.Core.Bool.{true, false}
 use lib.Dec.{eqb}
 use lib.Bits.{bitOr, or-step, or-shr, or-lt}
-use lib.ListN.{getD, set, replicate}
-use lib.Seq.{getD-set-same, getD-set-other}
-use borrow.Author.Tests.{eqb-true, eqb-false, eq-eqb, ne-eqb}
+use borrow.Author.Tests.{eqb-true, eq-eqb, ne-eqb}
 use Rattle.rules.specs.Loops.{oneIf, everyUpTo}
-use Rattle.rules.specs.LoopsLaws.{either, every-at}
-use Rattle.rules.specs.Tables.{pastFigures}
-use Rattle.rules.specs.Parts.{hasAnswered, withAnswer, openedRound, figuresAt}
-use Rattle.runs.specs.Types.{Figures, Kind, Round}
+use Rattle.rules.specs.LoopsLaws.{every-at}
+use Rattle.rules.specs.Parts.{hasAnswered, withAnswer}
+use Rattle.runs.specs.Types.{Figures, Round}
 
 -- bit v of 2 to the s
 powers : everyUpTo (λ s. everyUpTo (λ v. eqb (2 ^ s / 2 ^ v % 2) (oneIf (eqb s v))) 8) 8 ≡ true

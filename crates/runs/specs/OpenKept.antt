@@ -3,17 +3,15 @@ use Prim.Native.Nat.{ℕ, _+_, _<_, _≤_}
 use native.Mathlib.Omega.{arith}
 use mathlib.Core.Path.{_≡_, refl, sym, ap, _∙_}
 use mathlib.Core.Logic.{_≢_, ⊎-elim, _⊎_, inl, inr}
-use mathlib.Core.Bool.{Bool, true, false, cond, true≢false, false≢true}
-use lib.ListN.{length, getD, replicate}
-use Rattle.rules.specs.Tables.{noFigures}
-use Rattle.rules.specs.Parts.{isFree, isOver, isPhaseTwo, figuresOf, hasAnswered, withAnswer, openedRound, askedOf, askedVisit, askedStatus, withPhase}
+use mathlib.Core.Bool.{Bool, true, false, true≢false, false≢true}
+use Rattle.rules.specs.Parts.{isOver, isPhaseTwo, figuresOf, hasAnswered, withAnswer, openedRound, askedOf, askedVisit, askedStatus, withPhase}
 use Rattle.rules.specs.Rounds.{openedPassage}
-use Rattle.runs.specs.Types.{Figures, Kind, Phase, Round, Status, Passage, Visit, Call, Asked, Told, Body, Message}
+use Rattle.runs.specs.Types.{Figures, Kind, Phase, Status, Visit, Call, Told, Body, Message}
 use Rattle.runs.specs.Put.{put, put-same}
 use Rattle.runs.specs.View.{View, Ledger, relast}
-use Rattle.runs.specs.Clauses.{isRefresh, isBinding, Below, QuietMail, Quiet, InAnswer, Kept, Figure, FigureFine, EdgeFine, SiteFine, CallFine, PhaseOneFine, LateFine, ToldFine, BodyFine, PassageFine, FreeFine, Holds}
+use Rattle.runs.specs.Clauses.{isBinding, Below, Quiet, InAnswer, Figure, FigureFine, EdgeFine, SiteFine, ToldFine, BodyFine, Holds}
 use Rattle.runs.specs.Masks.{nobody-answers, answered-here}
-use Rattle.runs.specs.RoundKept.{alikeHere, restated, restated-kept, answer-kept}
+use Rattle.runs.specs.RoundKept.{alikeHere, restated-kept, answer-kept}
 use Rattle.runs.specs.VisitKept.{withVisit, withLast}
 use Rattle.runs.specs.TimesKept.{asked-kept, asked-says, AskedSays, number-here}
 

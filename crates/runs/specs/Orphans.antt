@@ -35,6 +35,7 @@ unfoldable pub beganCommit : ℕ → Bool → List Entry → Bool
 beganCommit p before [] = before
 beganCommit p before (e ∷ es) = beganCommit p (commitAfter p before (e .step)) es
 
+-- a retire of this slot
 abbrev pub retires : ℕ → Step → Bool
 retires p (Step.Tick site n) = false
 retires p (Step.Begin home slot q r) = false
@@ -65,6 +66,7 @@ stepsAt s (e ∷ es) = oneIf (e .acted && eqb (e .places .site) s) + stepsAt s e
 
 -- ---- T: "the latest quiesce or release time in that passage's visits and messages then, or 0 if there are none"
 
+-- of a visit that is there, the later of its two times
 abbrev pub visitLatest : Visit → ℕ
 visitLatest v = cond (v .there) (max (v .quiesce) (v .release)) 0
 
@@ -92,6 +94,7 @@ bodyAll (Body.PhaseTwo n (Told.Terminate m)) = m
 bodyAll (Body.PhaseTwo n Told.Prepare) = 0
 bodyAll (Body.Answer n received q) = q
 
+-- of a message of this slot, its latest time by either reading
 abbrev pub mailLatest : (Body → ℕ) → ℕ → Message → ℕ
 mailLatest of p m = cond (isMessageOf p m) (of (m .body)) 0
 

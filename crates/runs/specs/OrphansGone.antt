@@ -1,36 +1,28 @@
--- Demand 3. An aborted passage that never began a commit round is gone from a station once the station's clock has reached T and a sweep
--- is accepted there, whatever is lost or crashes, and it never comes back. Assumes nothing.
-use Prim.Native.Nat.{ℕ, zero, suc, _+_, _-_, _<_, _≤_, max}
+-- What is known along a run is what the list of accepted steps says; at the moment no time of the passage is above T. Assumes nothing.
+use Prim.Native.Nat.{ℕ, zero, suc, _-_, _<_, _≤_, max}
 use native.Mathlib.Omega.{arith}
-use mathlib.Core.Path.{_≡_, refl, sym, ap, _∙_, subst}
-use mathlib.Core.Logic.{_≢_, ⊎-elim, _⊎_, inl, inr}
-use mathlib.Core.Bool.{Bool, true, false, cond, not, _&&_, _||_, true≢false, false≢true}
+use mathlib.Core.Path.{_≡_, refl, sym, ap, _∙_}
+use mathlib.Core.Logic.{⊎-elim, _⊎_}
+use mathlib.Core.Bool.{Bool, true, false, cond, not, _||_}
 use mathlib.Core.List.{List, [], _∷_}
-use lib.Dec.{eqb}
 use Rattle.rules.specs.Loops.{mostUpTo}
 use Rattle.rules.specs.LoopsLaws.{either, most-at, or-left, or-right, and-left, not-true}
-use Rattle.rules.specs.Tables.{start, siteAt, objectAt, passageAt, visitAt, messageAt, objectSite, noMessage}
+use Rattle.rules.specs.Tables.{start, passageAt, visitAt, messageAt, noMessage}
 use Rattle.rules.specs.Parts.{isEmpty}
 use Rattle.rules.specs.Answers.{isAccepted}
-use Rattle.rules.specs.StoredLaws.{Sized}
-use Rattle.rules.specs.Machine.{lookOf, headOf, isMessageOf, stepOf}
-use Rattle.rules.specs.Runs.{runOf, Entry, historyOf}
+use Rattle.rules.specs.Machine.{isMessageOf, stepOf}
+use Rattle.rules.specs.Runs.{runOf, historyOf}
 use Rattle.rules.specs.declared.answers.Trip.{Trip}
-use Rattle.rules.specs.declared.tables.Holder.{Holder}
-use Rattle.runs.specs.Types.{Status, Phase, Kind, Visit, Asked, Told, Body, Message, Tables, Step, Outcome}
-use Rattle.runs.specs.View.{View, mailOf, viewOf}
+use Rattle.runs.specs.Types.{Status, Visit, Asked, Told, Body, Tables, Step, Outcome}
+use Rattle.runs.specs.View.{viewOf}
 use Rattle.runs.specs.Clauses.{Holds}
-use Rattle.runs.specs.Steps.{ghostTurns, ghostStep, ghostRun, ghost-accepted, ghost-refused, step-keeps}
-use Rattle.runs.specs.Sizes.{sized-step, sized-run}
-use Rattle.runs.specs.Holders.{Held, held-run, held-step}
-use Rattle.runs.specs.Clocks.{clock-not-back, clock-run}
-use Rattle.runs.specs.Counted.{history-accepted, history-refused, steps-drive}
-use Rattle.runs.specs.Swept.{Ripe, swept-away}
+use Rattle.runs.specs.Steps.{ghostTurns, ghostStep, ghostRun, ghost-accepted, ghost-refused}
+use Rattle.runs.specs.Counted.{history-accepted, history-refused}
 use Rattle.runs.specs.Ledgers.{ledgersOf}
 use Rattle.runs.specs.RunLaws.{holds-run}
-use Rattle.runs.specs.Orphans.{commitAfter, beganCommit, retires, isRetired, stepsAt, visitLatest, bodyLatest, bodyAll, mailLatest, latestBy, latest, latestOfAll}
-use Rattle.runs.specs.Watch.{Known, Plain, Bounded, BoundedVisit, BoundedBody, Watch}
-use Rattle.runs.specs.WatchSteps.{knownHead, knownTurn, knownNothing, watch-head, watch-run, watch-start}
+use Rattle.runs.specs.Orphans.{beganCommit, retires, isRetired, visitLatest, bodyLatest, mailLatest, latest}
+use Rattle.runs.specs.Watch.{Known, Bounded, BoundedVisit, BoundedBody}
+use Rattle.runs.specs.WatchSteps.{knownHead, knownTurn}
 
 -- ---- what is known along a run is what the list of accepted steps says
 

@@ -1,10 +1,10 @@
 -- A function over places with one place changed. Assumes nothing.
-use Prim.Native.Nat.{ℕ, _+_, _<_, _≤_, zero, suc}
+use Prim.Native.Nat.{ℕ, _+_, _<_, zero, suc}
 use native.Mathlib.Omega.{arith}
 use native.Mathlib.Nat.{not-suc-le-zero}
-use mathlib.Core.Path.{_≡_, refl, sym, ap, _∙_}
+use mathlib.Core.Path.{_≡_, refl, sym, _∙_}
 use mathlib.Core.Logic.{_≢_, ⊎-elim, _⊎_, inl, inr}
-use mathlib.Core.Bool.{Bool, true, false, cond}
+use mathlib.Core.Bool.{cond}
 use lib.Dec.{eqb}
 use borrow.Author.Tests.{eqb-true, eqb-false, eq-eqb, ne-eqb}
 use Rattle.rules.specs.Loops.{sumUpTo}

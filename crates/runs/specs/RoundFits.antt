@@ -2,31 +2,29 @@
 use Prim.Native.Nat.{ℕ, _+_, _%_, _<_, _≤_}
 use native.Mathlib.Omega.{arith}
 use mathlib.Core.Path.{_≡_, refl, sym, ap, _∙_, subst}
-use mathlib.Core.Logic.{_≢_, ⊎-elim, _⊎_, inl, inr}
-use mathlib.Core.Bool.{Bool, true, false, cond, not, _&&_, _||_, true≢false, false≢true}
-use lib.Dec.{eqb, leb, ltb}
+use mathlib.Core.Logic.{_≢_, _⊎_, inl, inr}
+use mathlib.Core.Bool.{Bool, true, false, not, _||_, true≢false, false≢true}
 use borrow.Author.Tests.{eqb-false}
-use Rattle.rules.specs.LoopsLaws.{either, or-left, or-right, not-false, and-left, and-right}
+use Rattle.rules.specs.LoopsLaws.{or-left, or-right, not-false}
 use Rattle.rules.specs.Tables.{siteAt, passageAt, visitAt, messageAt}
 use Rattle.rules.specs.AnswersLaws.{Fine}
-use Rattle.rules.specs.Checks.{badSite, badHandle, badTimes, noPassage, visitMissing}
+use Rattle.rules.specs.Checks.{badHandle, badTimes}
 use Rattle.rules.specs.Parts.{isFree, isEmpty, isOver, isActive, isRunning, isAborted, isPhaseOne, isPhaseTwo, nextClock, hasAnswered, plainMessage, askedOf, askedVisit, askedStatus}
-use Rattle.rules.specs.Rounds.{openChecks, openedVisit, openedPassage, openDone, askChecks, askBody, sentOut, askDone, tellChecks, tellBody, tellDone}
+use Rattle.rules.specs.Rounds.{openChecks, openedPassage, openDone, askChecks, sentOut, askDone, tellChecks, tellDone}
 use Rattle.rules.specs.Machine.{looksHome, lookOf, placesOf, seenOf}
-use Rattle.rules.specs.RangesLaws.{placed-places, in-range-places}
-use Rattle.rules.specs.Ranges.{inRange, passageInRange, roundInRange, phaseFits}
-use Rattle.rules.specs.RangesFits.{PassageFits, RoundFits, SeenFits, seen-says}
+use Rattle.rules.specs.RangesLaws.{placed-places}
+use Rattle.rules.specs.Ranges.{inRange, phaseFits}
+use Rattle.rules.specs.RangesFits.{seen-says}
 use Rattle.rules.specs.RangesLaws.{seen-in-range}
-use Rattle.runs.specs.Types.{Site, Kind, Status, Phase, Passage, Visit, Asked, Body, Message, Tables, Step, Look, Places, Seen}
+use Rattle.runs.specs.Types.{Kind, Status, Phase, Body, Tables, Step, Places}
 use Rattle.rules.specs.declared.answers.MailAt.{MailAt}
-use Rattle.runs.specs.Put.{put, put-same, put-back}
-use Rattle.runs.specs.View.{View, Ledger, mailOf, viewOf, noLedger, noted}
-use Rattle.runs.specs.Clauses.{isRefresh, isBinding, Holds}
+use Rattle.runs.specs.Put.{put, put-same}
+use Rattle.runs.specs.View.{View, Ledger, viewOf, noted}
+use Rattle.runs.specs.Clauses.{isRefresh, Holds}
 use Rattle.runs.specs.OpenKept.{opened-kept}
 use Rattle.runs.specs.MailKept.{withMail, ask-kept, tell-kept}
-use Rattle.runs.specs.VisitKept.{withLast}
-use Rattle.runs.specs.TimesKept.{AskedSays, asked-says}
-use Rattle.runs.specs.Store.{nextLedger, leftView, Own, own-mail, empty-mail, Fitting, noted-there, noted-same}
+use Rattle.runs.specs.TimesKept.{asked-says}
+use Rattle.runs.specs.Store.{leftView, own-mail, Fitting, noted-there, noted-same}
 use Rattle.runs.specs.Fits.{moved, moved-kept, news-kept, mail-back, visit-back, not-free}
 use Rattle.runs.specs.LifeFits.{site-says, times-say}
 

@@ -1,19 +1,19 @@
 -- The passage's round moves on: another status and phase, an answer that is kept, a new number. Assumes nothing.
-use Prim.Native.Nat.{ℕ, _+_, _<_, _≤_}
+use Prim.Native.Nat.{ℕ, _<_, _≤_}
 use native.Mathlib.Omega.{arith}
 use mathlib.Core.Path.{_≡_, refl, sym, ap, _∙_}
 use mathlib.Core.Logic.{_≢_, ⊎-elim, _⊎_, inl, inr}
-use mathlib.Core.Bool.{Bool, true, false, cond, true≢false, false≢true}
+use mathlib.Core.Bool.{Bool, true, false, false≢true}
 use mathlib.Core.List.{List}
-use lib.ListN.{length, getD, set, length-set, replicate}
+use lib.ListN.{length, getD, length-set}
 use lib.Seq.{getD-set-same, getD-set-other}
-use Rattle.rules.specs.Tables.{pastFigures, noFigures}
-use Rattle.rules.specs.Parts.{isFree, isOver, isPhaseTwo, withPhase, abortedPassage, figuresAt, hasAnswered, withAnswer, withRound, openedRound, largestQuiesce}
-use Rattle.runs.specs.Types.{Figures, Kind, Phase, Round, Status, Passage, Visit, Call, Told, Body, Message}
+use Rattle.rules.specs.Tables.{pastFigures}
+use Rattle.rules.specs.Parts.{isFree, isOver, isPhaseTwo, withPhase, figuresAt, hasAnswered, withAnswer, largestQuiesce}
+use Rattle.runs.specs.Types.{Figures, Kind, Phase, Status}
 use Rattle.runs.specs.Put.{same-or-other}
 use Rattle.runs.specs.View.{View, Ledger}
-use Rattle.runs.specs.Clauses.{isRefresh, isBinding, Below, QuietMail, Quiet, InAnswer, Kept, Figure, FigureFine, EdgeFine, SiteFine, CallFine, PhaseOneFine, LateFine, ToldFine, BodyFine, PassageFine, FreeFine, sentFigures, Holds}
-use Rattle.runs.specs.Masks.{answered-here, answered-other, mask-lt, nobody-answers}
+use Rattle.runs.specs.Clauses.{isRefresh, isBinding, Below, Quiet, Kept, FigureFine, EdgeFine, Holds}
+use Rattle.runs.specs.Masks.{answered-here, answered-other, mask-lt}
 use Rattle.runs.specs.Same.{alike, alikeView, body-kept, site-kept}
 
 -- the same visits, clocks and messages

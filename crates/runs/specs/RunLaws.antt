@@ -1,21 +1,18 @@
 -- What holds of a passage in every run, by name, for theorems to come: its times, what is gone, what a closed round means. Assumes nothing.
-use Prim.Native.Nat.{ℕ, _+_, _<_, _≤_}
-use native.Mathlib.Omega.{arith}
-use mathlib.Core.Path.{_≡_, refl, sym, ap, _∙_, subst}
-use mathlib.Core.Logic.{_≢_, ⊎-elim, _⊎_, inl, inr}
-use mathlib.Core.Bool.{Bool, true, false, cond, true≢false, false≢true}
+use Prim.Native.Nat.{ℕ, _<_, _≤_}
+use mathlib.Core.Path.{_≡_, sym, ap, _∙_, subst}
+use mathlib.Core.Logic.{_≢_, _⊎_}
+use mathlib.Core.Bool.{true, false, true≢false}
 use mathlib.Core.List.{List}
-use lib.Dec.{eqb}
-use borrow.Author.Tests.{eqb-true, eqb-false, eq-eqb, ne-eqb}
 use Rattle.rules.specs.Tables.{start, siteAt, passageAt, visitAt, messageAt, slotOf}
 use Rattle.rules.specs.Parts.{isEmpty, hasAnswered, isClosed}
 use Rattle.rules.specs.Runs.{runOf}
-use Rattle.runs.specs.Types.{Kind, Phase, Status, Call, Body, Message, Tables, Step}
-use Rattle.runs.specs.View.{View, Ledger, mailOf, viewOf}
-use Rattle.runs.specs.Clauses.{isRefresh, isBinding, Below, QuietMail, Quiet, SiteFine, Holds}
+use Rattle.runs.specs.Types.{Phase, Status, Call, Body, Message, Tables, Step}
+use Rattle.runs.specs.View.{Ledger, viewOf}
+use Rattle.runs.specs.Clauses.{isRefresh, isBinding, Below, QuietMail, Quiet, Holds}
 use Rattle.runs.specs.TimesKept.{call-says}
 use Rattle.runs.specs.Store.{own-mail}
-use Rattle.runs.specs.Closing.{closing-refresh, closing-binding, closing-making, closing-no-call}
+use Rattle.runs.specs.Closing.{closing-refresh, closing-binding}
 use Rattle.runs.specs.CallsKept.{never-twice}
 use Rattle.runs.specs.Ledgers.{ledgersOf, kept-run}
 
@@ -107,7 +104,7 @@ module _ (ss : List Step) (p : ℕ) (slot : p < 16) where
         → hasAnswered (passageAt Left p .round) s ≡ true
     closed-binding-answered = closing-binding (viewOf Left p) Past holds-run one closed
 
-  -- ---- after a terminate or a prepare has closed, no call of the passage is in flight
+  -- ---- in phase 2 of a terminate or a prepare no call of the passage is in flight
 
   pub no-call-after :
       passageAt Left p .round .phase ≡ Phase.Two → isBinding (passageAt Left p .round .kind) ≡ true

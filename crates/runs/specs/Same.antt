@@ -6,7 +6,7 @@ use mathlib.Core.Logic.{⊎-elim, _⊎_, inl, inr}
 use mathlib.Core.Bool.{false}
 use mathlib.Core.List.{List}
 use Rattle.rules.specs.Parts.{largestQuiesce}
-use Rattle.runs.specs.Types.{Figures, Kind, Phase, Round, Status, Passage, Visit, Call, Told, Body, Message}
+use Rattle.runs.specs.Types.{Figures, Kind, Phase, Status, Passage, Visit, Call, Told, Body, Message}
 use Rattle.runs.specs.View.{View, Ledger}
 use Rattle.runs.specs.Clauses.{Below, Quiet, FigureFine, EdgeFine, SiteFine, CallFine, ToldFine, BodyFine}
 

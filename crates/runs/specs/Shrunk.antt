@@ -1,16 +1,16 @@
 -- The frame law: clocks only rise, messages are lost, visits go at their time; passage and ledger stay. Assumes nothing.
-use Prim.Native.Nat.{ℕ, zero, suc, _+_, _<_, _≤_}
+use Prim.Native.Nat.{ℕ, zero, suc, _+_, _≤_}
 use native.Mathlib.Omega.{arith}
-use mathlib.Core.Path.{_≡_, refl, sym, ap, _∙_, subst}
+use mathlib.Core.Path.{_≡_, sym, ap, _∙_}
 use mathlib.Core.Logic.{_≢_, ⊎-elim, _⊎_, inl, inr}
-use mathlib.Core.Bool.{Bool, true, false, cond, true≢false, false≢true}
+use mathlib.Core.Bool.{true, false, true≢false}
 use Rattle.rules.specs.Loops.{oneIf, sumUpTo}
 use Rattle.rules.specs.LoopsLaws.{either}
 use Rattle.rules.specs.Parts.{isEmpty}
-use Rattle.runs.specs.Types.{Figures, Kind, Phase, Status, Visit, Call, Told, Body, Message}
-use Rattle.runs.specs.View.{View, Past, Ledger}
+use Rattle.runs.specs.Types.{Figures, Visit, Body, Message}
+use Rattle.runs.specs.View.{View, Ledger}
 use Rattle.runs.specs.Same.{body-kept, site-kept}
-use Rattle.runs.specs.Clauses.{Below, QuietMail, Quiet, InAnswer, Figure, FigureFine, EdgeFine, SiteFine, CallFine, PhaseOneFine, LateFine, ToldFine, BodyFine, Posted, PassageFine, FreeFine, isCallTo, callsTo, receivedBy, sentBy, Holds}
+use Rattle.runs.specs.Clauses.{Below, Quiet, Figure, FigureFine, EdgeFine, SiteFine, BodyFine, PassageFine, FreeFine, isCallTo, callsTo, receivedBy, sentBy, Holds}
 
 -- a sum of smaller numbers is smaller
 pub sum-le : (f g : ℕ → ℕ) (n : ℕ) → ((i : ℕ) → f i ≤ g i) → sumUpTo f n ≤ sumUpTo g n

@@ -1,26 +1,26 @@
 -- Steps of a station keep the invariant: tick, recover, the clock of a sweep and of a crash, and each slot of them. Assumes nothing.
-use Prim.Native.Nat.{ℕ, _+_, _%_, _<_, _≤_}
+use Prim.Native.Nat.{ℕ, _%_, _≤_}
 use native.Mathlib.Omega.{arith}
-use mathlib.Core.Path.{_≡_, refl, sym, ap, _∙_, subst}
+use mathlib.Core.Path.{_≡_, refl, sym, subst}
 use mathlib.Core.Logic.{_≢_, ⊎-elim, _⊎_, inl, inr}
 use mathlib.Core.Bool.{Bool, true, false, cond, not, _&&_, _||_, true≢false, false≢true}
-use lib.Dec.{eqb, leb}
+use lib.Dec.{eqb}
 use borrow.Author.Tests.{leb-true}
 use Rattle.rules.specs.LoopsLaws.{either, and-left, and-right}
 use Rattle.rules.specs.Tables.{siteAt, passageAt, visitAt, messageAt, noVisit, slotOf}
-use Rattle.rules.specs.Parts.{isFree, isActive, isRunning, abortedPassage, quieted, whereThere}
-use Rattle.rules.specs.Stations.{leftSite, isSwept, sweptPassage, sweptSlot, losesHome, crashedVisit, crashedPassage, crashedSlot}
+use Rattle.rules.specs.Parts.{isFree, isActive, abortedPassage, quieted, whereThere}
+use Rattle.rules.specs.Stations.{leftSite, isSwept, sweptSlot, losesHome, crashedSlot}
 use Rattle.rules.specs.Calls.{lost}
 use Rattle.rules.specs.Machine.{seenOf, slotPlaces}
-use Rattle.runs.specs.Types.{Site, Status, Phase, Passage, Visit, Body, Message, Tables, Places, Seen}
+use Rattle.runs.specs.Types.{Site, Visit, Tables, Places}
 use Rattle.runs.specs.Put.{put, put-same, put-back}
-use Rattle.runs.specs.View.{View, Ledger, mailOf, viewOf, noLedger, noted, relast}
-use Rattle.runs.specs.Clauses.{Quiet, Holds}
+use Rattle.runs.specs.View.{View, Ledger, mailOf, viewOf, noLedger, noted}
+use Rattle.runs.specs.Clauses.{Holds}
 use Rattle.runs.specs.Shrunk.{around}
-use Rattle.runs.specs.VisitKept.{withVisit, withLast}
+use Rattle.runs.specs.VisitKept.{withVisit}
 use Rattle.runs.specs.TimesKept.{quieted-kept}
-use Rattle.runs.specs.RoundKept.{restated, aborted-kept}
-use Rattle.runs.specs.Store.{nextLedger, leftView, Own, Fitting, idle-kept, noted-there, noted-gone, noted-same}
+use Rattle.runs.specs.RoundKept.{aborted-kept}
+use Rattle.runs.specs.Store.{leftView, Fitting, idle-kept, noted-there, noted-gone, noted-same}
 use Rattle.runs.specs.Fits.{moved, moved-kept, news-kept, mail-back, went-kept}
 
 -- only the site changes, and its clock does not go back

@@ -2,12 +2,11 @@
 -- A ghost may be carried along the run; it is no part of the machine. Assumes nothing.
 use Prim.Native.Nat.{ℕ, zero, suc, _<_, _≤_}
 use native.Mathlib.Omega.{arith}
-use mathlib.Core.Path.{_≡_, refl, sym, ap, _∙_, subst}
-use mathlib.Core.Logic.{⊎-elim, _⊎_, inl, inr}
-use mathlib.Core.Bool.{Bool, true, false, cond, true≢false, false≢true}
+use mathlib.Core.Path.{_≡_, refl, sym, ap, _∙_}
+use mathlib.Core.Logic.{⊎-elim, _⊎_}
+use mathlib.Core.Bool.{Bool, true, false, cond, false≢true}
 use mathlib.Core.List.{List, [], _∷_}
 use Rattle.rules.specs.LoopsLaws.{either}
-use Rattle.rules.specs.Tables.{start}
 use Rattle.rules.specs.Answers.{isAccepted}
 use Rattle.rules.specs.Ranges.{inRange}
 use Rattle.rules.specs.Machine.{lookOf, headOf, turnOf, turnsUpTo, turnCount, stepInRangeOf, refusedAll, stepOf}

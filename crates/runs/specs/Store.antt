@@ -1,14 +1,14 @@
 -- From tables to views: a step stores one site, one passage, one visit and one message; what each slot then sees. Assumes nothing.
-use Prim.Native.Nat.{ℕ, _+_, _*_, _%_, _<_, _≤_}
+use Prim.Native.Nat.{ℕ, _<_, _≤_}
 use native.Mathlib.Omega.{arith}
-use mathlib.Core.Path.{_≡_, refl, sym, ap, _∙_, subst}
+use mathlib.Core.Path.{_≡_, refl, sym, ap, _∙_}
 use mathlib.Core.Logic.{_≢_, ⊎-elim, _⊎_, inl, inr}
-use mathlib.Core.Bool.{Bool, true, false, cond, not, _&&_, true≢false, false≢true}
+use mathlib.Core.Bool.{Bool, true, false, cond, not, _&&_}
 use lib.Dec.{eqb}
-use borrow.Author.Tests.{eqb-true, eqb-false, eq-eqb, ne-eqb}
-use Rattle.rules.specs.Tables.{siteAt, passageAt, visitAt, visitPlace, messageAt, noMessage, slotOf}
+use borrow.Author.Tests.{eq-eqb, ne-eqb}
+use Rattle.rules.specs.Tables.{siteAt, visitAt, messageAt, noMessage, slotOf}
 use Rattle.rules.specs.Parts.{isFree, isEmpty}
-use Rattle.rules.specs.Machine.{seenOf, stored, isMessageOf}
+use Rattle.rules.specs.Machine.{seenOf, stored}
 use Rattle.rules.specs.LoopsLaws.{either}
 use Rattle.rules.specs.StoredLaws.{Sized, Placed, visit-place-same, site-after-stored, passage-after-stored, visit-after-stored, message-after-stored, site-after-stored-other, passage-after-stored-other, visit-after-stored-other, message-after-stored-other}
 use Rattle.runs.specs.Types.{Site, Status, Passage, Visit, Body, Message, Tables, Places, Seen}

@@ -1,19 +1,19 @@
 -- A sweep goes through the slots: an unprepared visit whose release time the clock has reached is gone afterwards. Assumes nothing.
-use Prim.Native.Nat.{ℕ, zero, suc, _+_, _%_, _<_, _≤_}
+use Prim.Native.Nat.{ℕ, zero, suc, _%_, _<_, _≤_}
 use native.Mathlib.Omega.{arith}
 use mathlib.Core.Path.{_≡_, refl, sym, ap, _∙_, subst}
 use mathlib.Core.Logic.{_≢_, ⊎-elim, _⊎_, inl, inr}
-use mathlib.Core.Bool.{Bool, true, false, cond, not, _&&_, true≢false, false≢true}
+use mathlib.Core.Bool.{Bool, true, false, cond, false≢true}
 use lib.Dec.{leb}
-use borrow.Author.Tests.{leb-true, leb-false}
+use borrow.Author.Tests.{leb-false}
 use Rattle.rules.specs.LoopsLaws.{either}
-use Rattle.rules.specs.Tables.{siteAt, visitAt, noVisit}
+use Rattle.rules.specs.Tables.{siteAt, visitAt}
 use Rattle.rules.specs.Answers.{isAccepted}
 use Rattle.rules.specs.Ranges.{inRange}
-use Rattle.rules.specs.StoredLaws.{Sized, Placed, sized-after-stored, visit-place-same, site-after-stored, site-after-stored-other, visit-after-stored, visit-after-stored-other}
+use Rattle.rules.specs.StoredLaws.{Sized, sized-after-stored, visit-place-same, site-after-stored, visit-after-stored, visit-after-stored-other}
 use Rattle.rules.specs.RangesLaws.{cond-keeps, placed-slots}
 use Rattle.rules.specs.Stations.{isSwept, sweptSlot}
-use Rattle.rules.specs.Machine.{lookOf, seenOf, stored, headOf, slotPlaces, sweepTurn, turnsUpTo, turnCount, stepInRangeOf, stepOf}
+use Rattle.rules.specs.Machine.{seenOf, stored, headOf, slotPlaces, sweepTurn, turnsUpTo, turnCount, stepInRangeOf, stepOf}
 use Rattle.rules.specs.declared.answers.Trip.{Trip}
 use Rattle.runs.specs.Types.{Site, Visit, Tables, Step, Outcome, Seen}
 use Rattle.runs.specs.Put.{same-or-other}

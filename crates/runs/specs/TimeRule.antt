@@ -8,7 +8,7 @@ use Rattle.rules.specs.Tables.{start, visitAt}
 use Rattle.rules.specs.Runs.{runOf, runRecordsOf}
 use Rattle.runs.specs.Types.{Tables, Step}
 use Rattle.runs.specs.Steps.{stepsOf, records-are-steps}
-use Rattle.runs.specs.Ledgers.{ledgersOf, kept-run}
+use Rattle.runs.specs.Ledgers.{kept-run}
 
 -- for every slot, and every two sites with a visit of that slot: the quiesce time of the one is at most the release time of the other
 abbrev pub TimeRule : Tables → Type 0
@@ -25,6 +25,6 @@ time-rule steps slot one other p i j e f =
     (← h .mirror one e .1, ← h .mirror other f .1)
     (h .sites one (h .mirror one e .0) .times .visits other (h .mirror other f .0))
 
--- whatever records of sixteen bytes were run
+-- whatever records were run, of sixteen bytes or not
 pub time-rule-records : (records : List (List ℕ)) → TimeRule (runRecordsOf start records)
 time-rule-records records = rw (records-are-steps start records) (time-rule (stepsOf records))

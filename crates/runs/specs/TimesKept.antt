@@ -1,14 +1,14 @@
 -- The parts of a round at a visit that is there: phase 1 and phase 2 at home or away; and a quiesce time that goes down. Assumes nothing.
-use Prim.Native.Nat.{ℕ, _+_, _<_, _≤_, min, max}
+use Prim.Native.Nat.{ℕ, _<_, _≤_, min, max}
 use native.Mathlib.Omega.{arith}
 use mathlib.Core.Path.{_≡_, refl, sym, ap, _∙_, subst}
-use mathlib.Core.Logic.{_≢_, ⊎-elim, _⊎_, inl, inr}
-use mathlib.Core.Bool.{Bool, true, false, cond, true≢false, false≢true}
+use mathlib.Core.Logic.{_≢_}
+use mathlib.Core.Bool.{Bool, true, false, false≢true}
 use Rattle.rules.specs.Parts.{quieted, withTimes, askedVisit, askedOf, largestQuiesce}
-use Rattle.runs.specs.Types.{Figures, Kind, Phase, Visit, Call, Asked, Told, Body, Message}
+use Rattle.runs.specs.Types.{Kind, Visit, Call, Asked, Told, Body}
 use Rattle.runs.specs.View.{View, Ledger}
-use Rattle.runs.specs.Clauses.{isRefresh, isBinding, Below, QuietMail, Quiet, SiteFine, CallFine, LateFine, ToldFine, BodyFine, PassageFine, Holds}
-use Rattle.runs.specs.VisitKept.{withVisit, withLast, Revision, revised-kept}
+use Rattle.runs.specs.Clauses.{isBinding, Below, Quiet, SiteFine, CallFine, LateFine, BodyFine, Holds}
+use Rattle.runs.specs.VisitKept.{withVisit, withLast, revised-kept}
 
 -- what is below every release stays so when it is smaller
 pub below-le : (w : View) (l : Ledger) (p q : ℕ) → p ≤ q → Below w l q → Below w l p

@@ -2,9 +2,8 @@
 use Prim.Native.Nat.{ℕ, suc}
 use mathlib.Core.Bool.{Bool, true, false, cond}
 use Rattle.rules.specs.Tables.{siteAt, passageAt, visitAt, messageAt, noVisit, noMessage}
-use Rattle.rules.specs.Parts.{isFree}
 use Rattle.rules.specs.Machine.{isMessageOf}
-use Rattle.runs.specs.Types.{Passage, Visit, Message, Tables, Places, Seen}
+use Rattle.runs.specs.Types.{Passage, Visit, Message, Tables}
 use Rattle.runs.specs.Put.{put}
 
 -- one slot's part of the tables: its passage, its visit at each site, each site's clock, and its messages;

@@ -1,17 +1,16 @@
 -- A visit that is there gets other times or another round; its calls stay. Assumes nothing.
-use Prim.Native.Nat.{ℕ, _+_, _<_, _≤_, min, max}
+use Prim.Native.Nat.{ℕ, _+_, _<_, _≤_}
 use native.Mathlib.Omega.{arith}
 use mathlib.Core.Path.{_≡_, refl, sym, ap, _∙_}
 use mathlib.Core.Logic.{_≢_, ⊎-elim, _⊎_, inl, inr}
-use mathlib.Core.Bool.{Bool, true, false, cond, true≢false, false≢true}
-use lib.ListN.{getD}
+use mathlib.Core.Bool.{true, false, true≢false}
 use Rattle.rules.specs.Loops.{sumUpTo}
 use Rattle.rules.specs.LoopsLaws.{sum-same}
 use Rattle.rules.specs.Parts.{largestQuiesce}
-use Rattle.runs.specs.Types.{Figures, Kind, Phase, Status, Visit, Call, Told, Body, Message}
+use Rattle.runs.specs.Types.{Figures, Kind, Phase, Visit, Call, Told, Body, Message}
 use Rattle.runs.specs.Put.{put, put-same, put-other, put-all, same-or-other}
-use Rattle.runs.specs.View.{View, Past, Ledger, relast}
-use Rattle.runs.specs.Clauses.{isRefresh, isBinding, Below, QuietMail, Quiet, InAnswer, Figure, FigureFine, EdgeFine, SiteFine, CallFine, PhaseOneFine, LateFine, ToldFine, BodyFine, Posted, PassageFine, FreeFine, callsTo, receivedBy, sentBy, sentFigures, Holds}
+use Rattle.runs.specs.View.{View, Ledger, relast}
+use Rattle.runs.specs.Clauses.{isBinding, Below, QuietMail, Quiet, FigureFine, EdgeFine, SiteFine, BodyFine, callsTo, receivedBy, sentBy, sentFigures, Holds}
 
 -- the view with this visit at site a
 abbrev pub withVisit : View → ℕ → Visit → View

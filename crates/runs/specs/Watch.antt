@@ -1,7 +1,7 @@
 -- The invariant behind demand 3, for one passage slot: what an orphan can and can't have any more. Assumes nothing.
 use Prim.Native.Nat.{ℕ, _≤_}
 use mathlib.Core.Path.{_≡_}
-use mathlib.Core.Logic.{_≢_, _⊎_}
+use mathlib.Core.Logic.{_⊎_}
 use mathlib.Core.Bool.{Bool, true, false}
 use Rattle.runs.specs.Types.{Kind, Phase, Status, Visit, Asked, Told, Body}
 use Rattle.runs.specs.View.{View}

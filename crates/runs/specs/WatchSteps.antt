@@ -1,12 +1,12 @@
 -- Every accepted step's store, and every slot's turn of a sweep or a crash, keeps the invariant behind demand 3. Assumes nothing.
-use Prim.Native.Nat.{ℕ, zero, suc, _+_, _%_, _<_, _≤_}
+use Prim.Native.Nat.{ℕ, _+_, _%_, _<_, _≤_}
 use native.Mathlib.Omega.{arith}
 use mathlib.Core.Path.{_≡_, refl, sym, ap, _∙_, subst}
 use mathlib.Core.Logic.{_≢_, ⊎-elim, _⊎_, inl, inr}
 use mathlib.Core.Bool.{Bool, true, false, not, _&&_, _||_, true≢false, false≢true}
 use mathlib.Core.List.{List}
 use lib.Dec.{eqb, ltb}
-use lib.ListN.{length, getD, replicate, List·getD-eq-default}
+use lib.ListN.{length, List·getD-eq-default}
 use borrow.Author.Tests.{eq-eqb, ne-eqb, leb-false, ltb-true, ltb-false}
 use Rattle.rules.specs.declared.answers.Trip.{Trip}
 use Rattle.rules.specs.Loops.{someUpTo}
@@ -15,7 +15,7 @@ use Rattle.rules.specs.Tables.{start, siteAt, passageAt, visitAt, messageAt, vi
 use Rattle.rules.specs.Answers.{isAccepted, settleOf}
 use Rattle.rules.specs.AnswersLaws.{Fine, accepted-fine}
 use Rattle.rules.specs.Checks.{badHandle, badTimes}
-use Rattle.rules.specs.Parts.{isFree, isActive, isAborted, isRunning, isOver, isPhaseOne, isPhaseTwo, hasAnswered, isEmpty, nextClock, newVisit, askedVisit, answerMessage, plainMessage}
+use Rattle.rules.specs.Parts.{isActive, isAborted, isRunning, isOver, isPhaseOne, isPhaseTwo, hasAnswered, isEmpty, nextClock, newVisit, askedVisit, answerMessage, plainMessage}
 use Rattle.rules.specs.Stations.{leftSite, isSwept, losesHome, sweptSlot, crashedSlot, tickOf, tickDone, sweepOf, sweepDone, crashOf, crashDone, recoverOf, recoverDone}
 use Rattle.rules.specs.Passages.{begunPassage, beginOf, beginDone, beginChecks, abortOf, abortDone, retireOf, retireDone, retireChecks}
 use Rattle.rules.specs.Rounds.{refreshOf, terminateOf, prepareOf, openOf, openDone, openChecks, openedVisit, sentOut, askOf, askDone, askChecks, askBody, closeOf, closeDone, closeChecks, tellOf, tellDone, tellChecks, tellBody, roundTold}
