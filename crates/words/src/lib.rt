@@ -1,0 +1,3 @@
+// The text form of a sheet: one step to a line, in document 01's own words.
+// The types of its reader; what they mean is said in specs/.
+pub mod scan;
