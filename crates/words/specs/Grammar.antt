@@ -6,6 +6,7 @@ use mathlib.Core.List.{List, [], _∷_}
 use lib.Dec.{ltb, eqb}
 use lib.ListN.{getD, set}
 use Rattle.rules.specs.Loops.{firstUpTo}
+use Rattle.words.specs.Types.{Edge, Slot}
 
 -- ---- the words, each as a number: its letters from a = 1 to z = 26, in base 32
 
@@ -96,13 +97,6 @@ valueWord = 23114405
 -- ---- words: at place `from` the word leads to place `to`, and puts `value` into byte `field` of the record
 -- a field of 16 is none: the word gives nothing
 
-pub record Edge : Type 0 where
-  pub from : ℕ
-  pub word : ℕ
-  pub to : ℕ
-  pub field : ℕ
-  pub value : ℕ
-
 abbrev pub edge : ℕ → ℕ → ℕ → ℕ → ℕ → Edge
 edge from word to field value =
     record { from = from; word = word; to = to; field = field; value = value }
@@ -147,7 +141,7 @@ abbrev pub edgeCount : ℕ
 edgeCount = 31
 
 abbrev pub edgeOf : ℕ → Edge
-edgeOf k = getD edges k (edge 0 0 0 16 0)
+edgeOf k = getD edges k (edge 0 0 0 0 0)
 
 abbrev pub leadsFrom : ℕ → ℕ → ℕ → Bool
 leadsFrom node word k = eqb (edgeOf k .from) node && eqb (edgeOf k .word) word
@@ -158,11 +152,6 @@ edgeAt node word = firstUpTo (leadsFrom node word) edgeCount
 
 -- ---- numbers: at this place a number goes into `width` bytes of the record from byte `field` on, and leads to place `to`
 -- a width of 0 is none: no number stands here
-
-pub record Slot : Type 0 where
-  pub field : ℕ
-  pub width : ℕ
-  pub to : ℕ
 
 abbrev pub takes : ℕ → ℕ → ℕ → Slot
 takes field width to = record { field = field; width = width; to = to }

@@ -1,11 +1,11 @@
 -- The reader: a fold over the bytes of a line, and over the bytes of a text. Assumes nothing.
 use Prim.Native.Nat.{ℕ, _+_, _*_, _-_, _/_, _%_}
-use mathlib.Core.Bool.{Bool, cond, _&&_, _||_}
+use mathlib.Core.Bool.{Bool, true, false, cond, _&&_, _||_}
 use mathlib.Core.List.{List, [], _∷_, _++_}
 use lib.Dec.{leb, ltb, eqb}
 use lib.ListN.{getD, set}
-use Rattle.words.specs.Types.{Fault, Mode, Scan, Verdict, Stop, Reader}
-use Rattle.words.specs.Grammar.{Edge, edgeCount, edgeOf, edgeAt, Slot, slotAt, mostIn, rawNode, mayEnd, said, stored}
+use Rattle.words.specs.Types.{Edge, Slot, Fault, Mode, Scan, Verdict, Stop, Reader}
+use Rattle.words.specs.Grammar.{edgeCount, edgeOf, edgeAt, slotAt, mostIn, rawNode, mayEnd, said, stored}
 
 -- ---- bytes
 
@@ -193,11 +193,6 @@ lineMost = 1000
 abbrev pub recordMost : ℕ
 recordMost = 4095
 
--- a text under way, with the bytes of its records
-pub record Read : Type 0 where
-  pub reader : Reader
-  pub records : List ℕ
-
 abbrev pub reading : ℕ → ℕ → ℕ → Scan → Reader
 reading lines count length scan =
     record { stop = Stop.Going; scan = scan; length = length; lines = lines; count = count }
@@ -213,46 +208,62 @@ stopped r f =
       count = r .count;
     }
 
-abbrev pub recorded : Read → List ℕ → Read
-recorded t bytes =
+-- a line has ended, and says a record, or nothing, or something wrong
+abbrev pub recorded : Reader → Reader
+recorded r =
     cond
-    (ltb (t .reader .count) recordMost)
-    (record {
-      reader = reading (t .reader .lines + 1) (t .reader .count + 1) 0 blank;
-      records = t .records ++ bytes;
-    })
-    (record { reader = stopped (t .reader) Fault.TooManyLines; records = t .records })
+    (ltb (r .count) recordMost)
+    (reading (r .lines + 1) (r .count + 1) 0 blank)
+    (stopped r Fault.TooManyLines)
 
-abbrev pub judged : Read → Verdict → List ℕ → Read
-judged t Verdict.Blank bytes =
-    record { reader = reading (t .reader .lines + 1) (t .reader .count) 0 blank; records = t .records }
-judged t Verdict.Record bytes = recorded t bytes
-judged t (Verdict.Wrong f) bytes = record { reader = stopped (t .reader) f; records = t .records }
+abbrev pub judged : Reader → Verdict → Reader
+judged r Verdict.Blank = reading (r .lines + 1) (r .count) 0 blank
+judged r Verdict.Record = recorded r
+judged r (Verdict.Wrong f) = stopped r f
 
--- a line has ended
-abbrev pub lineEnded : Read → Read
-lineEnded t =
-    let s : Scan = endOf (t .reader .scan) in judged t (verdictOf s) (s .bytes)
+abbrev pub lineEnded : Reader → Reader
+lineEnded r = judged r (verdictOf (endOf (r .scan)))
 
-abbrev pub byteRead : Read → ℕ → Read
-byteRead t b =
+-- a byte of a line more
+abbrev pub byteRead : Reader → ℕ → Reader
+byteRead r b =
     cond
-    (ltb (t .reader .length) lineMost)
-    (record {
-      reader = reading (t .reader .lines) (t .reader .count) (t .reader .length + 1) (scanNext (t .reader .scan) b);
-      records = t .records;
-    })
-    (record { reader = stopped (t .reader) Fault.LineTooLong; records = t .records })
+    (ltb (r .length) lineMost)
+    (reading (r .lines) (r .count) (r .length + 1) (scanNext (r .scan) b))
+    (stopped r Fault.LineTooLong)
 
-abbrev pub goingNext : Read → ℕ → Read
-goingNext t b = cond (eqb b 10) (lineEnded t) (byteRead t b)
+abbrev pub nextWhile : Stop → Reader → ℕ → Reader
+nextWhile Stop.Going r b = cond (eqb b 10) (lineEnded r) (byteRead r b)
+nextWhile (Stop.At f) r b = r
 
-abbrev pub readBy : Stop → Read → ℕ → Read
-readBy Stop.Going t b = goingNext t b
-readBy (Stop.At f) t b = t
+unfoldable pub readerNext : Reader → ℕ → Reader
+readerNext r b = nextWhile (r .stop) r b
+
+-- whether this byte ends a line that says a record, and there is room for it
+abbrev pub isGoing : Stop → Bool
+isGoing Stop.Going = true
+isGoing (Stop.At f) = false
+
+abbrev pub saysRecord : Verdict → Bool
+saysRecord Verdict.Blank = false
+saysRecord Verdict.Record = true
+saysRecord (Verdict.Wrong f) = false
+
+unfoldable pub givesRecord : Reader → ℕ → Bool
+givesRecord r b =
+    isGoing (r .stop) && eqb b 10 && saysRecord (verdictOf (endOf (r .scan))) && ltb (r .count) recordMost
+
+-- a text under way, with the bytes of its records
+pub record Read : Type 0 where
+  pub reader : Reader
+  pub records : List ℕ
 
 unfoldable pub readNext : Read → ℕ → Read
-readNext t b = readBy (t .reader .stop) t b
+readNext t b =
+    record {
+      reader = readerNext (t .reader) b;
+      records = cond (givesRecord (t .reader) b) (t .records ++ endOf (t .reader .scan) .bytes) (t .records);
+    }
 
 unfoldable pub readAll : Read → List ℕ → Read
 readAll t [] = t
@@ -262,13 +273,6 @@ readAll t (b ∷ bs) = readAll (readNext t b) bs
 abbrev pub unread : Read
 unread = record { reader = reading 0 0 0 blank; records = [] }
 
--- the last line needs no newline
-abbrev pub finishBy : Stop → Read → Read
-finishBy Stop.Going t = lineEnded t
-finishBy (Stop.At f) t = t
-
-abbrev pub finished : Read → Read
-finished t = finishBy (t .reader .stop) t
-
+-- the last line needs no newline: one more is read at the end
 unfoldable pub textRead : List ℕ → Read
-textRead text = finished (readAll unread text)
+textRead text = readNext (readAll unread text) 10

@@ -14,7 +14,7 @@ use Rattle.rules.specs.Record.{stepOfRecord}
 use Rattle.rules.specs.RecordLaws.{Bytes16}
 use Rattle.words.specs.Types.{Scan, Step, Reading}
 use Rattle.words.specs.Grammar.{rawWord}
-use Rattle.words.specs.Scan.{blank, scanNext, scanAll, Read, reading, readNext, readAll, textRead}
+use Rattle.words.specs.Scan.{blank, scanNext, scanAll, Read, reading, readerNext, givesRecord, readNext, readAll, textRead}
 use Rattle.words.specs.Say.{lettersOf, wordText, Token, tokenText, restText, writeTokens, readTokens, readValueTokens, otherTokens, operationTokens, firstWord, moreTokens, stepText, hexText, rawText, recordBy, recordText, linesText}
 use Rattle.words.specs.Sheets.{joined}
 use Rattle.words.specs.StepLaws.{Says}
@@ -170,7 +170,7 @@ going lines count n s records = record { reader = reading lines count n s; recor
 byte-read :
     (b lines count n : ℕ) (s : Scan) (records : List ℕ) → 10 < b → n < 1000
     → readNext (going lines count n s records) b ≡ going lines count (n + 1) (scanNext s b) records
-unfolding readNext
+unfolding readNext readerNext givesRecord
 byte-read b lines count n s records past room = rw (ne-eqb b 10 (λ e. omega arith), lt-ltb n 1000 room)
 
 line-bytes :
@@ -187,7 +187,7 @@ line-bytes (x ∷ xs) lines count n s records p room =
 newline-read :
     (text bytes : List ℕ) (lines count n : ℕ) (records : List ℕ) → Says text bytes → count < 4095
     → readNext (going lines count n (scanAll blank text) records) 10 ≡ going (lines + 1) (count + 1) 0 blank (records ++ bytes)
-unfolding readNext
+unfolding readNext readerNext givesRecord
 newline-read text bytes lines count n records says room =
     rw (says .ends, says .gives, lt-ltb count 4095 room)
 
@@ -228,5 +228,5 @@ lines-read (b ∷ bs) lines count records w room =
 pub text-read :
     (bs : List (List ℕ)) → Records bs → length bs ≤ 4095
     → textRead (linesText bs) ≡ going (length bs + 1) (length bs) 0 blank (joined bs)
-unfolding textRead
+unfolding textRead readNext readerNext givesRecord
 text-read bs w room = rw (lines-read bs 0 0 [] w (omega arith), zero-add (length bs))
