@@ -1,27 +1,21 @@
+-- `grammar::slot_at` meets its contract. The columns make the row; past the last place there is none. Assumes nothing.
 use Rattle.grammar.proofs.Rows.{slot-made, slot-within, slot-past}
 use borrow.Author.Needs.{needs}
 use Rattle.grammar.proofs.slot_at.Statement.{statement}
 use Rattle.grammar.proofs.slot_at.Tie as tie
-use Rattle.grammar.proofs.slot_at.Reads as reads
-use Rattle.grammar.proofs.slot_at.Lts as lts
 
--- src/lib.rt:305:20
 array-read-t7 : tie.Need-array-read-t7
 array-read-t7 c = search needs
 
--- src/lib.rt:306:20
 array-read-t11 : tie.Need-array-read-t11
 array-read-t11 c = search needs
 
--- src/lib.rt:307:17
 array-read-t15 : tie.Need-array-read-t15
 array-read-t15 c = search needs
 
--- src/lib.rt:304:9
 returns : tie.Need-returns
 returns c = (slot-made (c .before .args .node), slot-within (c .before .args .node) (search needs))
 
--- src/lib.rt:299:1
 returns-2 : tie.Need-returns-2
 returns-2 c = (slot-past (c .before .args .node) (search needs), search needs)
 
