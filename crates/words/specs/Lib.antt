@@ -10,3 +10,4 @@ pub mod RecordLaws
 pub mod Sheets
 pub mod TextLaws
 pub mod SheetsLaws
+pub mod ReadLaws

@@ -193,6 +193,10 @@ lineMost = 1000
 abbrev pub recordMost : ℕ
 recordMost = 4095
 
+-- and a text has fewer lines than this, those that say nothing counted
+abbrev pub linesMost : ℕ
+linesMost = 1000000
+
 abbrev pub reading : ℕ → ℕ → ℕ → Scan → Reader
 reading lines count length scan =
     record { stop = Stop.Going; scan = scan; length = length; lines = lines; count = count }
@@ -222,7 +226,8 @@ judged r Verdict.Record = recorded r
 judged r (Verdict.Wrong f) = stopped r f
 
 abbrev pub lineEnded : Reader → Reader
-lineEnded r = judged r (verdictOf (endOf (r .scan)))
+lineEnded r =
+    cond (ltb (r .lines) linesMost) (judged r (verdictOf (endOf (r .scan)))) (stopped r Fault.TooManyLines)
 
 -- a byte of a line more
 abbrev pub byteRead : Reader → ℕ → Reader
@@ -251,7 +256,12 @@ saysRecord (Verdict.Wrong f) = false
 
 unfoldable pub givesRecord : Reader → ℕ → Bool
 givesRecord r b =
-    isGoing (r .stop) && eqb b 10 && saysRecord (verdictOf (endOf (r .scan))) && ltb (r .count) recordMost
+    isGoing (r .stop) && eqb b 10 && ltb (r .lines) linesMost && saysRecord (verdictOf (endOf (r .scan)))
+    && ltb (r .count) recordMost
+
+-- what this byte adds to the records
+unfoldable pub given : Reader → ℕ → List ℕ
+given r b = cond (givesRecord r b) (endOf (r .scan) .bytes) []
 
 -- a text under way, with the bytes of its records
 pub record Read : Type 0 where
@@ -260,10 +270,7 @@ pub record Read : Type 0 where
 
 unfoldable pub readNext : Read → ℕ → Read
 readNext t b =
-    record {
-      reader = readerNext (t .reader) b;
-      records = cond (givesRecord (t .reader) b) (t .records ++ endOf (t .reader .scan) .bytes) (t .records);
-    }
+    record { reader = readerNext (t .reader) b; records = t .records ++ given (t .reader) b }
 
 unfoldable pub readAll : Read → List ℕ → Read
 readAll t [] = t

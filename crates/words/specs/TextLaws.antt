@@ -14,7 +14,7 @@ use Rattle.rules.specs.Record.{stepOfRecord}
 use Rattle.rules.specs.RecordLaws.{Bytes16}
 use Rattle.words.specs.Types.{Scan, Step, Reading}
 use Rattle.words.specs.Grammar.{rawWord}
-use Rattle.words.specs.Scan.{blank, scanNext, scanAll, Read, reading, readerNext, givesRecord, readNext, readAll, textRead}
+use Rattle.words.specs.Scan.{blank, scanNext, scanAll, Read, reading, readerNext, givesRecord, given, readNext, readAll, textRead}
 use Rattle.words.specs.Say.{lettersOf, wordText, Token, tokenText, restText, writeTokens, readTokens, readValueTokens, otherTokens, operationTokens, firstWord, moreTokens, stepText, hexText, rawText, recordBy, recordText, linesText}
 use Rattle.words.specs.Sheets.{joined}
 use Rattle.words.specs.StepLaws.{Says}
@@ -170,8 +170,9 @@ going lines count n s records = record { reader = reading lines count n s; recor
 byte-read :
     (b lines count n : ℕ) (s : Scan) (records : List ℕ) → 10 < b → n < 1000
     → readNext (going lines count n s records) b ≡ going lines count (n + 1) (scanNext s b) records
-unfolding readNext readerNext givesRecord
-byte-read b lines count n s records past room = rw (ne-eqb b 10 (λ e. omega arith), lt-ltb n 1000 room)
+unfolding readNext readerNext givesRecord given
+byte-read b lines count n s records past room =
+    rw (ne-eqb b 10 (λ e. omega arith), lt-ltb n 1000 room, append-nil records)
 
 line-bytes :
     (xs : List ℕ) (lines count n : ℕ) (s : Scan) (records : List ℕ) → Plain xs → n + length xs ≤ 1000
@@ -185,22 +186,22 @@ line-bytes (x ∷ xs) lines count n s records p room =
     ∙ ap (λ (k : ℕ). going lines count k (scanAll (scanNext s x) xs) records) last
 
 newline-read :
-    (text bytes : List ℕ) (lines count n : ℕ) (records : List ℕ) → Says text bytes → count < 4095
+    (text bytes : List ℕ) (lines count n : ℕ) (records : List ℕ) → Says text bytes → count < 4095 → lines < 1000000
     → readNext (going lines count n (scanAll blank text) records) 10 ≡ going (lines + 1) (count + 1) 0 blank (records ++ bytes)
-unfolding readNext readerNext givesRecord
-newline-read text bytes lines count n records says room =
-    rw (says .ends, says .gives, lt-ltb count 4095 room)
+unfolding readNext readerNext givesRecord given
+newline-read text bytes lines count n records says room few =
+    rw (lt-ltb lines 1000000 few, says .ends, says .gives, lt-ltb count 4095 room)
 
 -- a line that says a record adds it to the records
 pub line-read :
-    (text bytes rest : List ℕ) (lines count : ℕ) (records : List ℕ) → Says text bytes → Plain text → length text ≤ 1000 → count < 4095
+    (text bytes rest : List ℕ) (lines count : ℕ) (records : List ℕ) → Says text bytes → Plain text → length text ≤ 1000 → count < 4095 → lines < 1000000
     → readAll (going lines count 0 blank records) (text ++ (10 ∷ rest))
     ≡ readAll (going (lines + 1) (count + 1) 0 blank (records ++ bytes)) rest
 unfolding readAll
-line-read text bytes rest lines count records says plain short room =
+line-read text bytes rest lines count records says plain short room few =
     read-append (going lines count 0 blank records) text (10 ∷ rest)
     ∙ ap (λ (t : Read). readAll (readNext t 10) rest) (line-bytes text lines count 0 blank records plain (omega arith))
-    ∙ ap (λ (t : Read). readAll t rest) (newline-read text bytes lines count (0 + length text) records says room)
+    ∙ ap (λ (t : Read). readAll t rest) (newline-read text bytes lines count (0 + length text) records says room few)
 
 -- ---- all of them
 
@@ -209,17 +210,17 @@ Records [] = Unit {0}
 Records (b ∷ bs) = Bytes16 b × Records bs
 
 pub lines-read :
-    (bs : List (List ℕ)) (lines count : ℕ) (records : List ℕ) → Records bs → count + length bs ≤ 4095
+    (bs : List (List ℕ)) (lines count : ℕ) (records : List ℕ) → Records bs → count + length bs ≤ 4095 → lines + length bs < 1000000
     → readAll (going lines count 0 blank records) (linesText bs)
     ≡ going (lines + length bs) (count + length bs) 0 blank (records ++ joined bs)
 unfolding readAll linesText
-lines-read [] lines count records w room = rw (add-zero lines, add-zero count, append-nil)
-lines-read (b ∷ bs) lines count records w room =
+lines-read [] lines count records w room few = rw (add-zero lines, add-zero count, append-nil)
+lines-read (b ∷ bs) lines count records w room few =
     let l : lines + 1 + length bs ≡ lines + suc (length bs) = omega arith in
     let c : count + 1 + length bs ≡ count + suc (length bs) = omega arith in
     let short : length (recordText b) ≤ 108 = record-length b (w .0 .sixteen) in
-    line-read (recordText b) b (linesText bs) lines count records (record-says b (w .0)) (plain-record b) (omega arith) (omega arith)
-    ∙ lines-read bs (lines + 1) (count + 1) (records ++ b) (w .1) (omega arith)
+    line-read (recordText b) b (linesText bs) lines count records (record-says b (w .0)) (plain-record b) (omega arith) (omega arith) (omega arith)
+    ∙ lines-read bs (lines + 1) (count + 1) (records ++ b) (w .1) (omega arith) (omega arith)
     ∙ ap (λ (k : ℕ). going k (count + 1 + length bs) 0 blank ((records ++ b) ++ joined bs)) l
     ∙ ap (λ (k : ℕ). going (lines + suc (length bs)) k 0 blank ((records ++ b) ++ joined bs)) c
     ∙ ap (λ (r : List ℕ). going (lines + suc (length bs)) (count + suc (length bs)) 0 blank r) (append-assoc records b (joined bs))
@@ -228,5 +229,5 @@ lines-read (b ∷ bs) lines count records w room =
 pub text-read :
     (bs : List (List ℕ)) → Records bs → length bs ≤ 4095
     → textRead (linesText bs) ≡ going (length bs + 1) (length bs) 0 blank (joined bs)
-unfolding textRead readNext readerNext givesRecord
-text-read bs w room = rw (lines-read bs 0 0 [] w (omega arith), zero-add (length bs))
+unfolding textRead readNext readerNext givesRecord given
+text-read bs w room = rw (lines-read bs 0 0 [] w (omega arith) (omega arith), zero-add (length bs), lt-ltb (length bs) 1000000 (omega arith), append-nil (joined bs))
