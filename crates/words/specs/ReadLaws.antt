@@ -1,5 +1,5 @@
 -- Laws of reading a text byte by byte, for the loops that do it. Assumes nothing.
-use Prim.Native.Nat.{ℕ, suc, _+_, _<_}
+use Prim.Native.Nat.{ℕ, _+_, _≤_, _<_}
 use native.Mathlib.Omega.{arith}
 use native.Mathlib.Nat.{add-zero}
 use native.Mathlib.Numerals.{add-one}
@@ -72,6 +72,13 @@ next-count r b = counts-by (r .stop) r b refl
 pub gives-room : (r : Reader) (b : ℕ) → givesRecord r b ≡ true → r .count < 4095
 unfolding givesRecord
 gives-room r b e = ltb-true (r .count) recordMost (and-right (isGoing (r .stop) && eqb b 10 && ltb (r .lines) linesMost && saysRecord (verdictOf (endOf (r .scan)))) (ltb (r .count) recordMost) e)
+
+pub count-most : (r : Reader) (b : ℕ) → r .count ≤ 4095 → readerNext r b .count ≤ 4095
+count-most r b h =
+    ⊎-elim
+    (λ (g : givesRecord r b ≡ true). let l : r .count < 4095 = gives-room r b g in rw (next-count r b, g) (omega arith))
+    (λ (g : givesRecord r b ≡ false). rw (next-count r b, g) (omega arith))
+    (either (givesRecord r b))
 
 -- ---- one byte more of a text
 

@@ -1,6 +1,8 @@
 -- Lists of records in words, the sheet that they make, and what passwrite answers. Assumes nothing.
 use Prim.Native.Nat.{ℕ, _+_}
 use mathlib.Core.List.{List, [], _∷_, _++_}
+use mathlib.Core.Bool.{cond}
+use lib.Dec.{ltb}
 use lib.ListN.{length}
 use Rattle.rules.specs.Record.{longBytes}
 use Rattle.rules.specs.Listing.{decimalOf}
@@ -45,5 +47,15 @@ abbrev pub answerBy : Stop → Read → List ℕ
 answerBy Stop.Going t = sheetOf (t .records)
 answerBy (Stop.At f) t = faultLine (t .reader .lines + 1) f
 
+unfoldable pub answerText : List ℕ → List ℕ
+answerText text = answerBy (textRead text .reader .stop) (textRead text)
+
+-- a text has at most so many bytes; a longer one gets one line, "text too long"
+abbrev pub textMost : ℕ
+textMost = 524288
+
+abbrev pub longLine : List ℕ
+longLine = 116 ∷ 101 ∷ 120 ∷ 116 ∷ 32 ∷ 116 ∷ 111 ∷ 111 ∷ 32 ∷ 108 ∷ 111 ∷ 110 ∷ 103 ∷ 10 ∷ []
+
 unfoldable pub sheetText : List ℕ → List ℕ
-sheetText text = answerBy (textRead text .reader .stop) (textRead text)
+sheetText text = cond (ltb textMost (length text)) longLine (answerText text)

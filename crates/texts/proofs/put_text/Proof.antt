@@ -1,3 +1,4 @@
+-- `texts::put_text` meets its contract. What its callees ensure, put together with the tests that were taken, is the definition. Assumes nothing.
 use Rattle.texts.proofs.Pieces.{one-more}
 use Rattle.lines.specs.Text.{Puts, put-none}
 use lib.Seq.{take-length}
@@ -9,8 +10,6 @@ use native.Mathlib.Omega.{arith}
 use borrow.Author.Needs.{needs}
 use Rattle.texts.proofs.put_text.Statement.{statement}
 use Rattle.texts.proofs.put_text.Tie as tie
-use Rattle.texts.proofs.put_text.Reads as reads
-use Rattle.texts.proofs.put_text.Lts as lts
 
 abbrev Inv-loop : tie.InvT-loop
 Inv-loop out₀ at text n i₀ out i = Puts out₀ at (take i text) out (at + i) × (i ≤ length text) × (length out ≡ length out₀)
@@ -18,43 +17,33 @@ Inv-loop out₀ at text n i₀ out i = Puts out₀ at (take i text) out (at + i)
 abbrev μ-loop : tie.MeasureT-loop
 μ-loop out₀ at text n i₀ out i = length text - i
 
--- src/lib.rt:25:5
 loop-holds : tie.Need-loop-holds Inv-loop μ-loop
 loop-holds c = (rw add-zero (put-none (c .args .out .now) (c .args .at)), search needs, refl)
 
--- src/lib.rt:26:23
 shared-slice-read-out : tie.Need-shared-slice-read-out Inv-loop μ-loop
 shared-slice-read-out c = search needs
 
--- src/lib.rt:26:13
 add-out : tie.Need-add-out Inv-loop μ-loop
 add-out c = search needs
 
--- src/lib.rt:26:9
 slice-write-out : tie.Need-slice-write-out Inv-loop μ-loop
 slice-write-out c = search needs
 
--- src/lib.rt:27:9
 add-i : tie.Need-add-i Inv-loop μ-loop
 add-i c = search needs
 
--- src/lib.rt:25:5
 loop-less : tie.Need-loop-less Inv-loop μ-loop
 loop-less c = search needs
 
--- src/lib.rt:25:5
 loop-again : tie.Need-loop-again Inv-loop μ-loop
 loop-again c = (one-more (c .before .before .before .args .out .now) (c .before .before .loop .out) (c .before .before .before .args .text .now) (c .before .before .before .args .at) (c .before .before .loop .i) (omega arith) (search needs) (omega arith) (c .before .before .loop .inv .0), search needs, length-set (c .before .before .loop .out) (c .before .before .before .args .at + c .before .before .loop .i) _ ∙ c .before .before .loop .inv .2)
 
--- src/lib.rt:29:5
 add-result : tie.Need-add-result Inv-loop μ-loop
 add-result c = search needs
 
--- src/lib.rt:19:1
 same-length : tie.Need-same-length Inv-loop μ-loop
 same-length c = c .before .loop .inv .2
 
--- src/lib.rt:19:1
 returns : tie.Need-returns Inv-loop μ-loop
 returns c = let e : c .before .loop .i ≡ length (c .before .before .args .text .now) = omega arith in rw (e, take-length (c .before .before .args .text .now)) at (c .before .loop .inv .0)
 
