@@ -1,11 +1,13 @@
 -- The writer: the words of a step, the line of a record, the text of a list of records. Assumes nothing.
-use Prim.Native.Nat.{ℕ, zero, suc, _+_, _/_, _%_}
+use Prim.Native.Nat.{ℕ, zero, suc, _+_, _/_, _%_, _≤_}
 use mathlib.Core.Bool.{cond}
-use mathlib.Core.List.{List, [], _∷_, _++_}
+use mathlib.Core.Path.{_≡_}
+use mathlib.Core.List.{List, [], _∷_, _++_, map}
+use lib.ListN.{take}
 use lib.Dec.{ltb, eqb}
 use Rattle.rules.specs.Listing.{digitsOf}
 use Rattle.rules.specs.Record.{stepOfRecord}
-use Rattle.words.specs.Types.{Step, Reading}
+use Rattle.words.specs.Types.{Step, Reading, Piece, Tokens}
 use Rattle.words.specs.Grammar.{tickWord, beginWord, invokeWord, refreshWord, terminateWord, prepareWord, askWord, closeWord, tellWord, abortWord, deliverWord, dropWord, sweepWord, crashWord, recoverWord, retireWord, rawWord, byWord, homeWord, slotWord, quiesceWord, releaseWord, atWord, readWord, writeWord, operationWord, objectWord, valueWord}
 
 -- a word's letters, of which there are at most k
@@ -108,6 +110,16 @@ moreTokens (Step.Sweep site) = Token.Number site ∷ []
 moreTokens (Step.Crash site) = Token.Number site ∷ []
 moreTokens (Step.Recover site) = Token.Number site ∷ []
 moreTokens (Step.Retire h) = Token.Number h ∷ []
+
+-- a word or a number, in code
+abbrev pub pieceToken : Piece → Token
+pieceToken p = cond (p .word) (Token.Word (p .value)) (Token.Number (p .value))
+
+-- a first word, and the words and numbers after it, in a list of fixed length
+pub record Lists (t : Tokens) (word : ℕ) (tokens : List Token) : Type 0 where
+  pub first : t .first ≡ word
+  pub more : map pieceToken (take (t .count) (t .rest)) ≡ tokens
+  pub few : t .count ≤ 9
 
 unfoldable pub stepText : Step → List ℕ
 stepText s = wordText (firstWord s) ++ restText (moreTokens s)

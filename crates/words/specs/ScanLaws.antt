@@ -13,7 +13,7 @@ use Rattle.rules.specs.Listing.{digitsOf}
 use Rattle.words.specs.Types.{Mode, Scan}
 use Rattle.words.specs.Grammar.{edgeCount, edgeOf, edgeAt, slotAt, mostIn, rawNode, said, stored}
 use Rattle.words.specs.Scan.{at, wordTaken, numberTaken, endOf, scanNext, scanAll}
-use Rattle.words.specs.Say.{wordText, numberText, Token, tokenText, restText}
+use Rattle.words.specs.Say.{Token, wordText, numberText, tokenText, restText}
 
 -- one part after another
 pub scan-append : (s : Scan) (xs ys : List ℕ) → scanAll s (xs ++ ys) ≡ scanAll (scanAll s xs) ys

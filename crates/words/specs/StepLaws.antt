@@ -14,7 +14,7 @@ use Rattle.rules.specs.RecordLaws.{StepFits, written-reads}
 use Rattle.words.specs.Types.{Mode, Verdict, Step, Reading}
 use Rattle.words.specs.Grammar.{edgeAt, invokeWord, atWord}
 use Rattle.words.specs.Scan.{at, blank, zeros, endOf, scanNext, scanAll, verdictOf}
-use Rattle.words.specs.Say.{lettersOf, Token, tokenText, restText, readValueTokens, otherTokens, firstWord, moreTokens, stepText}
+use Rattle.words.specs.Say.{Token, lettersOf, tokenText, restText, readValueTokens, otherTokens, firstWord, moreTokens, stepText}
 use Rattle.words.specs.ScanLaws.{Path, pathPlace, pathBytes, path-read}
 
 -- a line that says a record

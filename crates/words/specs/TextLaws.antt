@@ -15,7 +15,7 @@ use Rattle.rules.specs.RecordLaws.{Bytes16}
 use Rattle.words.specs.Types.{Scan, Step, Reading}
 use Rattle.words.specs.Grammar.{rawWord}
 use Rattle.words.specs.Scan.{blank, scanNext, scanAll, Read, reading, readerNext, givesRecord, given, readNext, readAll, textRead}
-use Rattle.words.specs.Say.{lettersOf, wordText, Token, tokenText, restText, writeTokens, readTokens, readValueTokens, otherTokens, operationTokens, firstWord, moreTokens, stepText, hexText, rawText, recordBy, recordText, linesText}
+use Rattle.words.specs.Say.{Token, lettersOf, wordText, tokenText, restText, writeTokens, readTokens, readValueTokens, otherTokens, operationTokens, firstWord, moreTokens, stepText, hexDigit, hexText, rawText, recordBy, recordText, linesText}
 use Rattle.words.specs.Sheets.{joined}
 use Rattle.words.specs.StepLaws.{Says}
 use Rattle.words.specs.RecordLaws.{record-says}
@@ -98,7 +98,7 @@ letters-length (suc k) w =
     cond-length (ltb w 32) ((96 + w) ∷ []) (lettersOf k (w / 32) ++ ((96 + w % 32) ∷ [])) (suc k) (omega arith)
     (rw (length-append (lettersOf k (w / 32))) (omega arith))
 
-token-length : (t : Token) → length (tokenText t) ≤ 10
+pub token-length : (t : Token) → length (tokenText t) ≤ 10
 token-length (Token.Word w) = let r : length (lettersOf 9 w) ≤ 9 = letters-length 9 w in omega arith
 token-length (Token.Number n) = digits-length 10 n
 
@@ -138,7 +138,7 @@ step-length s =
     rw (length-append (wordText (firstWord s)) (restText (moreTokens s)))
     (omega (arith, letters-length 9 (firstWord s), rest-length (moreTokens s), more-count s))
 
-hex-length : (xs : List ℕ) → length (hexText xs) ≡ 2 * length xs
+pub hex-length : (xs : List ℕ) → length (hexText xs) ≡ 2 * length xs
 unfolding hexText
 hex-length [] = refl
 hex-length (x ∷ xs) = let r : length (hexText xs) ≡ 2 * length xs = hex-length xs in omega arith
@@ -231,3 +231,14 @@ pub text-read :
     → textRead (linesText bs) ≡ going (length bs + 1) (length bs) 0 blank (joined bs)
 unfolding textRead readNext readerNext givesRecord given
 text-read bs w room = rw (lines-read bs 0 0 [] w (omega arith) (omega arith), zero-add (length bs), lt-ltb (length bs) 1000000 (omega arith), append-nil (joined bs))
+
+-- ---- one word or number, or one byte in hex, more
+
+pub rest-more : (ts : List Token) (t : Token) → restText (ts ++ (t ∷ [])) ≡ restText ts ++ (32 ∷ tokenText t)
+rest-more [] t = rw (append-nil (tokenText t))
+rest-more (u ∷ us) t = rw (rest-more us t, ← append-assoc (tokenText u) (restText us) (32 ∷ tokenText t))
+
+pub hex-more : (xs : List ℕ) (x : ℕ) → hexText (xs ++ (x ∷ [])) ≡ hexText xs ++ (hexDigit (x / 16) ∷ hexDigit (x % 16) ∷ [])
+unfolding hexText
+hex-more [] x = refl
+hex-more (y ∷ ys) x = rw (hex-more ys x)

@@ -9,3 +9,5 @@ pub use Rattle.words.specs.declared.scan.Stop.{Stop}
 pub use Rattle.words.specs.declared.scan.Reader.{Reader}
 pub use Rattle.rules.specs.declared.steps.Step.{Step}
 pub use Rattle.rules.specs.declared.steps.Reading.{Reading}
+pub use Rattle.words.specs.declared.tokens.Piece.{Piece}
+pub use Rattle.words.specs.declared.tokens.Tokens.{Tokens}

@@ -2,3 +2,4 @@
 // The types of its grammar and of its reader; what they mean is said in specs/.
 pub mod grammar;
 pub mod scan;
+pub mod tokens;
