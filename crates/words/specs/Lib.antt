@@ -8,6 +8,7 @@ pub mod ScanLaws
 pub mod StepLaws
 pub mod RecordLaws
 pub mod Sheets
+pub mod Tell
 pub mod TextLaws
 pub mod SheetsLaws
 pub mod ReadLaws

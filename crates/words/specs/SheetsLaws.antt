@@ -13,7 +13,8 @@ use Rattle.rules.specs.Record.{longBytes}
 use Rattle.rules.specs.Sheet.{trailerAt, distanceOf, sheetAnswer, sheetRecords, recordAt, recordsUpTo}
 use Rattle.rules.specs.SheetLaws.{Whole, taken-whole, taken-length, records-sixteens}
 use Rattle.words.specs.Scan.{textRead}
-use Rattle.words.specs.Say.{linesText}
+use Rattle.words.specs.Say.{recordText, linesText}
+use Rattle.words.specs.Tell.{plainUpTo, plainOf}
 use Rattle.words.specs.Sheets.{joined, sheetOf}
 use Rattle.words.specs.TextLaws.{Records, text-read}
 
@@ -138,3 +139,23 @@ module _ (r : List ℕ) (whole : length r % 16 ≡ 0) (short : length r ≤ 6552
   made-holds =
       let none : length r - length r ≡ 0 = omega arith in
       rw (made-taken, made-distance, made-trailer, none) (take-append-seam r (longBytes (length r) ++ (80 ∷ 65 ∷ 83 ∷ 83 ∷ [])))
+
+-- ---- the words alone, as passread gives them
+
+lines-more : (bs : List (List ℕ)) (b : List ℕ) → linesText (bs ++ (b ∷ [])) ≡ linesText bs ++ (recordText b ++ (10 ∷ []))
+unfolding linesText
+lines-more [] b = refl
+lines-more (c ∷ bs) b = rw (lines-more bs b, ← append-assoc (recordText c) (10 ∷ linesText bs) (recordText b ++ (10 ∷ [])))
+
+plain-lines : (part : List ℕ) (n : ℕ) → plainUpTo part n ≡ linesText (recordsUpTo part n)
+unfolding plainUpTo recordsUpTo linesText
+plain-lines part zero = refl
+plain-lines part (suc n) = rw (plain-lines part n, lines-more (recordsUpTo part n) (recordAt part n))
+
+-- the words of a sheet that is taken read as its records
+pub plain-survives :
+    (b : List ℕ) → ((i : ℕ) → getD b i 0 < 256) → sheetAnswer b ≡ SheetAnswer.Taken
+    → textRead (plainOf b) .records ≡ sheetRecords b
+unfolding plainOf
+plain-survives b byte e =
+    rw (e, plain-lines (sheetRecords b) (length (sheetRecords b) / 16)) (sheet-survives b byte)
