@@ -279,19 +279,25 @@ fn other_tokens(h: u64, site: u64, write: u64, object: u64, value: u64) -> Token
 }
 
 // invoke
-fn invoke_tokens(h: u64, site: u64, write: u64, object: u64, value: u64) -> Tokens
+fn invoke_tokens(h: u16, site: u8, write: u8, object: u8, value: u32) -> Tokens
     ensures { λ r. ⌜ Lists r invokeWord (Token.Number h ∷ Token.Word atWord ∷ Token.Number site ∷ operationTokens write object value) ⌝ }
 {
     if write == 1 {
-        return write_tokens(h, site, object, value);
+        return write_tokens(h as u64, site as u64, object as u64, value as u64);
     }
     if write != 0 {
-        return other_tokens(h, site, write, object, value);
+        return other_tokens(
+            h as u64,
+            site as u64,
+            write as u64,
+            object as u64,
+            value as u64,
+        );
     }
     if value == 0 {
-        return read_tokens(h, site, object);
+        return read_tokens(h as u64, site as u64, object as u64);
     }
-    read_value_tokens(h, site, object, value)
+    read_value_tokens(h as u64, site as u64, object as u64, value as u64)
 }
 
 // Any step.
@@ -312,13 +318,7 @@ pub fn tokens_of(s: Step) -> Tokens
             write,
             object,
             value,
-        } => invoke_tokens(
-            handle as u64,
-            site as u64,
-            write as u64,
-            object as u64,
-            value as u64,
-        ),
+        } => invoke_tokens(handle, site, write, object, value),
         Step::Refresh {
             handle,
             quiesce,

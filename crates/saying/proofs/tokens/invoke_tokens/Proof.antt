@@ -1,4 +1,4 @@
--- `saying::tokens::invoke_tokens` meets its contract. What its callees ensure, put together with the tests that were taken, is the definition. Assumes nothing.
+-- `saying::tokens::invoke_tokens` meets its contract. The tests choose the operation's pieces. Assumes nothing.
 use borrow.Author.Tests.{ne-eqb}
 use borrow.Author.Needs.{needs}
 use Rattle.saying.proofs.tokens.invoke_tokens.Statement.{statement}

@@ -36,21 +36,6 @@ begin-tokens-requires c κs = search needs
 enum-known-s-3 : tie.Need-enum-known-s-3
 enum-known-s-3 c = search needs
 
-cast-invoke-tokens : tie.Need-cast-invoke-tokens
-cast-invoke-tokens c = search needs
-
-cast-invoke-tokens-2 : tie.Need-cast-invoke-tokens-2
-cast-invoke-tokens-2 c = search needs
-
-cast-invoke-tokens-3 : tie.Need-cast-invoke-tokens-3
-cast-invoke-tokens-3 c = search needs
-
-cast-invoke-tokens-4 : tie.Need-cast-invoke-tokens-4
-cast-invoke-tokens-4 c = search needs
-
-cast-invoke-tokens-5 : tie.Need-cast-invoke-tokens-5
-cast-invoke-tokens-5 c = search needs
-
 invoke-tokens-requires : tie.Need-invoke-tokens-requires
 invoke-tokens-requires c κs = search needs
 
@@ -246,11 +231,6 @@ tokens-of-spec =
     cast-begin-tokens-4
     begin-tokens-requires
     enum-known-s-3
-    cast-invoke-tokens
-    cast-invoke-tokens-2
-    cast-invoke-tokens-3
-    cast-invoke-tokens-4
-    cast-invoke-tokens-5
     invoke-tokens-requires
     enum-known-s-4
     cast-refresh-tokens
