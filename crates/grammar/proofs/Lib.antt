@@ -1,0 +1,2 @@
+-- Laws that the proofs of grammar cite. Assumes nothing.
+pub mod Rows

@@ -1,0 +1,13 @@
+-- `grammar::leads_from` meets its contract. What its callees ensure, put together with the tests that were taken, is the definition. Assumes nothing.
+use borrow.Author.Needs.{needs}
+use Rattle.grammar.proofs.leads_from.Statement.{statement}
+use Rattle.grammar.proofs.leads_from.Tie as tie
+
+edge-of-requires : tie.Need-edge-of-requires
+edge-of-requires c κs = search needs
+
+returns : tie.Need-returns
+returns c = rw (c .before .before .edge-of .ensures)
+
+pub leads-from-spec : {M : Type 1} → statement M
+leads-from-spec = tie.close (tie.spec edge-of-requires returns)

@@ -1,0 +1,2 @@
+-- Laws that the proofs of reading cite. Assumes nothing.
+pub mod Phrases

@@ -1,0 +1,28 @@
+-- `reading::reader::byte_read` meets its contract. What its callees ensure, put together with the tests that were taken, is the definition. Assumes nothing.
+use borrow.Author.Tests.{lt-ltb, le-ltb}
+use borrow.Author.Needs.{needs}
+use Rattle.reading.proofs.reader.byte_read.Statement.{statement}
+use Rattle.reading.proofs.reader.byte_read.Tie as tie
+
+scan-next-requires : tie.Need-scan-next-requires
+scan-next-requires c κs = search needs
+
+add-reading : tie.Need-add-reading
+add-reading c = search needs
+
+reading-requires : tie.Need-reading-requires
+reading-requires c κs = search needs
+
+returns : tie.Need-returns
+returns c = rw (c .reading .ensures, c .before .before .scan-next .ensures, lt-ltb (c .before .before .before .before .before .before .args .r .length) 1000 (c .before .before .before .before .if1 .taken))
+
+stopped-requires : tie.Need-stopped-requires
+stopped-requires c κs = search needs
+
+returns-2 : tie.Need-returns-2
+returns-2 c = rw (c .stopped .ensures, le-ltb (c .before .before .before .args .r .length) 1000 (c .before .if1 .left))
+
+pub byte-read-spec : {M : Type 1} → statement M
+byte-read-spec =
+    tie.close
+    (tie.spec scan-next-requires add-reading reading-requires returns stopped-requires returns-2)

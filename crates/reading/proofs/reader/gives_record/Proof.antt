@@ -1,0 +1,26 @@
+-- `reading::reader::gives_record` meets its contract. What its callees ensure, put together with the tests that were taken, is the definition. Assumes nothing.
+use Rattle.words.specs.Scan.{givesRecord}
+use borrow.Author.Needs.{needs}
+use Rattle.reading.proofs.reader.gives_record.Statement.{statement}
+use Rattle.reading.proofs.reader.gives_record.Tie as tie
+
+end-of-requires : tie.Need-end-of-requires
+end-of-requires c κs = search needs
+
+verdict-of-requires : tie.Need-verdict-of-requires
+verdict-of-requires c κs = search needs
+
+is-going-requires : tie.Need-is-going-requires
+is-going-requires c κs = search needs
+
+says-record-requires : tie.Need-says-record-requires
+says-record-requires c κs = search needs
+
+returns : tie.Need-returns
+unfolding givesRecord
+returns c = rw (c .before .before .says-record .ensures, c .before .before .before .is-going .ensures, c .before .before .before .before .verdict-of .ensures, c .before .before .before .before .before .end-of .ensures)
+
+pub gives-record-spec : {M : Type 1} → statement M
+gives-record-spec =
+    tie.close
+    (tie.spec end-of-requires verdict-of-requires is-going-requires says-record-requires returns)

@@ -1,0 +1,25 @@
+-- `reading::reader::reader_next` meets its contract. What its callees ensure, put together with the tests that were taken, is the definition. Assumes nothing.
+use Rattle.words.specs.Scan.{readerNext}
+use borrow.Author.Needs.{needs}
+use Rattle.reading.proofs.reader.reader_next.Statement.{statement}
+use Rattle.reading.proofs.reader.reader_next.Tie as tie
+
+enum-told : tie.Need-enum-told
+enum-told c = search needs
+
+going-next-requires : tie.Need-going-next-requires
+going-next-requires c κs = search needs
+
+enum-told-2 : tie.Need-enum-told-2
+enum-told-2 c = search needs
+
+returns : tie.Need-returns
+unfolding readerNext
+returns c = rw (c .going-next .ensures, c .before .enum-told .given .1)
+
+returns-2 : tie.Need-returns-2
+unfolding readerNext
+returns-2 c = rw (c .enum-told2 .given .1)
+
+pub reader-next-spec : {M : Type 1} → statement M
+reader-next-spec = tie.close (tie.spec enum-told going-next-requires enum-told-2 returns returns-2)

@@ -1,0 +1,60 @@
+-- `reading::sheet::put_answer` meets its contract. What its callees ensure, put together with the tests that were taken, is the definition. Assumes nothing.
+use Rattle.reading.proofs.Phrases.{sheet-taken, refused-puts}
+use Rattle.lines.specs.Text.{put-both}
+use Rattle.words.specs.Sheets.{trailerOf, answerText}
+use Rattle.words.specs.Scan.{textRead}
+use Rattle.words.specs.declared.scan.Reader.{Reader}
+use Rattle.words.specs.declared.scan.Stop.{Stop}
+use lib.ListN.{length}
+use mathlib.Core.List.{_++_}
+use mathlib.Core.Path.{_≡_, sym, ap, _∙_}
+use Prim.Native.Nat.{zero-le}
+use native.Mathlib.Omega.{arith}
+use borrow.Author.Needs.{needs}
+use Rattle.reading.proofs.sheet.put_answer.Statement.{statement}
+use Rattle.reading.proofs.sheet.put_answer.Tie as tie
+
+read-text-requires : tie.Need-read-text-requires
+read-text-requires c κs = search needs
+
+cast-line : tie.Need-cast-line
+cast-line c = search needs
+
+add-line : tie.Need-add-line
+add-line c = search needs
+
+enum-told : tie.Need-enum-told
+enum-told c = search needs
+
+put-records-requires : tie.Need-put-records-requires
+put-records-requires c κs = search needs
+
+put-trailer-requires : tie.Need-put-trailer-requires
+put-trailer-requires c κs = search needs
+
+enum-known-stop : tie.Need-enum-known-stop
+enum-known-stop c = search needs
+
+put-fault-line-requires : tie.Need-put-fault-line-requires
+put-fault-line-requires c κs = search needs
+
+returns : tie.Need-returns
+returns c = let e : textRead (c .before .before .before .before .before .before .before .before .before .args .text .now) .reader .stop ≡ Stop.Going = ap (λ (r : Reader). r .stop) (sym (c .before .before .before .before .before .before .before .read-text .ensures)) ∙ c .before .before .before .before .enum-told .given .1 in let a : c .before .before .put-records .result ≡ length (textRead (c .before .before .before .before .before .before .before .before .before .args .text .now) .records) = omega (arith, c .before .before .put-records .ensures .0 .ends) in let q : textRead (c .before .before .before .before .before .before .before .before .before .args .text .now) .records ++ trailerOf (c .before .before .put-records .result) ≡ answerText (c .before .before .before .before .before .before .before .before .before .args .text .now) = rw a (sheet-taken (c .before .before .before .before .before .before .before .before .before .args .text .now) e) in let l : length (c .before .before .before .before .before .before .before .before .before .args .out .now) ≡ 65536 = search needs in let x = c .put-trailer .ensures .ends in (rw q at (put-both zero-le (c .before .before .put-records .ensures .0) (c .put-trailer .ensures)), omega (arith, c .put-trailer .kept .0, c .before .before .put-records .kept .1 .0))
+
+returns-2 : tie.Need-returns-2
+returns-2 c = let l : length (c .before .before .before .before .before .before .before .before .args .out .now) ≡ 65536 = search needs in refused-puts (c .before .before .before .before .before .before .before .before .args .text .now) (c .before .before .before .before .before .before .read-text .result) (c .before .before .before .before .before .before .read-text .ensures) l (c .before .before .before .stop .given .1) (c .put-fault-line .ensures) (c .put-fault-line .kept .0)
+
+pub put-answer-spec : {M : Type 1} → statement M
+put-answer-spec =
+    tie.close
+    (tie.spec
+    read-text-requires
+    cast-line
+    add-line
+    enum-told
+    put-records-requires
+    put-trailer-requires
+    enum-known-stop
+    put-fault-line-requires
+    returns
+    returns-2)

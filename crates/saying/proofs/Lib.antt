@@ -1,0 +1,2 @@
+-- Laws that the proofs of saying cite. Assumes nothing.
+pub mod Pieces

@@ -1,0 +1,31 @@
+-- `saying::line::put_step` meets its contract. What its callees ensure, put together with the tests that were taken, is the definition. Assumes nothing.
+use Rattle.words.specs.Say.{stepText}
+use Rattle.words.specs.TextLaws.{letters-length}
+use Rattle.lines.specs.Text.{put-both}
+use lib.ListN.{length}
+use Prim.Native.Nat.{_≤_}
+use native.Mathlib.Omega.{arith}
+use borrow.Author.Needs.{needs}
+use Rattle.saying.proofs.line.put_step.Statement.{statement}
+use Rattle.saying.proofs.line.put_step.Tie as tie
+
+tokens-of-requires : tie.Need-tokens-of-requires
+tokens-of-requires c κs = search needs
+
+put-letters-requires : tie.Need-put-letters-requires
+put-letters-requires c κs = search needs
+
+put-rest-requires : tie.Need-put-rest-requires
+put-rest-requires c κs = (omega (arith, letters-length 9 (c .before .before .before .before .before .before .tokens-of .result .first)), c .before .before .before .before .before .before .tokens-of .ensures .few)
+
+same-length : tie.Need-same-length
+same-length c = search needs
+
+returns : tie.Need-returns
+unfolding stepText
+returns c = let l : c .before .before .before .before .before .before .before .before .before .before .before .args .at ≤ length (c .before .before .before .before .before .before .before .before .before .before .before .args .out .now) = omega arith in rw (← c .before .before .before .before .before .before .before .before .before .tokens-of .ensures .first, ← c .before .before .before .before .before .before .before .before .before .tokens-of .ensures .more) (put-both l (c .before .before .before .before .before .before .put-letters .ensures) (c .before .before .put-rest .ensures))
+
+pub put-step-spec : {M : Type 1} → statement M
+put-step-spec =
+    tie.close
+    (tie.spec tokens-of-requires put-letters-requires put-rest-requires same-length returns)

@@ -1,0 +1,41 @@
+-- `saying::line::put_token` meets its contract. What its callees ensure, put together with the tests that were taken, is the definition. Assumes nothing.
+use Rattle.lines.specs.Text.{put-both}
+use lib.ListN.{length}
+use Prim.Native.Nat.{_≤_}
+use native.Mathlib.Omega.{arith}
+use borrow.Author.Needs.{needs}
+use Rattle.saying.proofs.line.put_token.Statement.{statement}
+use Rattle.saying.proofs.line.put_token.Tie as tie
+
+put-byte-requires : tie.Need-put-byte-requires
+put-byte-requires c κs = search needs
+
+put-letters-requires : tie.Need-put-letters-requires
+put-letters-requires c κs = search needs
+
+same-length : tie.Need-same-length
+same-length c = search needs
+
+returns : tie.Need-returns
+returns c = let l : c .before .before .before .before .before .before .before .before .before .before .args .at ≤ length (c .before .before .before .before .before .before .before .before .before .before .args .out .now) = omega arith in rw (c .before .before .before .before .if1 .taken) (put-both l (c .before .before .before .before .before .before .before .put-byte .ensures) (c .before .before .put-letters .ensures))
+
+put-digits-requires : tie.Need-put-digits-requires
+put-digits-requires c κs = search needs
+
+same-length-2 : tie.Need-same-length-2
+same-length-2 c = search needs
+
+returns-2 : tie.Need-returns-2
+returns-2 c = let l : c .before .before .before .before .before .before .before .before .before .before .args .at ≤ length (c .before .before .before .before .before .before .before .before .before .before .args .out .now) = omega arith in rw (c .before .before .before .before .if1 .left) (put-both l (c .before .before .before .before .before .before .before .put-byte .ensures) (c .before .before .put-digits .ensures))
+
+pub put-token-spec : {M : Type 1} → statement M
+put-token-spec =
+    tie.close
+    (tie.spec
+    put-byte-requires
+    put-letters-requires
+    same-length
+    returns
+    put-digits-requires
+    same-length-2
+    returns-2)

@@ -1,0 +1,17 @@
+-- `scanning::fields::said` meets its contract. What its callees ensure, put together with the tests that were taken, is the definition. Assumes nothing.
+use borrow.Author.Tests.{lt-ltb, le-ltb}
+use borrow.Author.Needs.{needs}
+use Rattle.scanning.proofs.fields.said.Statement.{statement}
+use Rattle.scanning.proofs.fields.said.Tie as tie
+
+array-write-next : tie.Need-array-write-next
+array-write-next c = search needs
+
+returns : tie.Need-returns
+returns c = rw (lt-ltb (c .before .args .field) 16 (c .if1 .taken))
+
+returns-2 : tie.Need-returns-2
+returns-2 c = rw (le-ltb (c .before .args .field) 16 (c .if1 .left))
+
+pub said-spec : {M : Type 1} → statement M
+said-spec = tie.close (tie.spec array-write-next returns returns-2)

@@ -1,0 +1,39 @@
+-- `scanning::fields::stored` meets its contract. What its callees ensure, put together with the tests that were taken, is the definition. Assumes nothing.
+use borrow.Author.Tests.{ne-eqb}
+use native.Mathlib.Omega.{arith}
+use borrow.Author.Needs.{needs}
+use Rattle.scanning.proofs.fields.stored.Statement.{statement}
+use Rattle.scanning.proofs.fields.stored.Tie as tie
+
+cast-field : tie.Need-cast-field
+cast-field c = search needs
+
+put-one-requires : tie.Need-put-one-requires
+put-one-requires c κs = (omega arith, rw (c .if1 .taken) at (c .before .before .before .pre .1))
+
+returns : tie.Need-returns
+returns c = rw (c .put-one .ensures, c .before .if1 .taken)
+
+put-two-requires : tie.Need-put-two-requires
+put-two-requires c κs = search needs
+
+returns-2 : tie.Need-returns-2
+returns-2 c = rw (c .put-two .ensures, c .before .if2 .taken)
+
+put-four-requires : tie.Need-put-four-requires
+put-four-requires c κs = search needs
+
+returns-3 : tie.Need-returns-3
+returns-3 c = rw (c .put-four .ensures, ne-eqb (c .before .before .before .before .before .before .args .slot .width) 1 (c .before .before .before .if1 .left), ne-eqb (c .before .before .before .before .before .before .args .slot .width) 2 (c .before .if2 .left))
+
+pub stored-spec : {M : Type 1} → statement M
+stored-spec =
+    tie.close
+    (tie.spec
+    cast-field
+    put-one-requires
+    returns
+    put-two-requires
+    returns-2
+    put-four-requires
+    returns-3)

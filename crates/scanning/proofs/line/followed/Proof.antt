@@ -1,0 +1,16 @@
+-- `scanning::line::followed` meets its contract. What its callees ensure, put together with the tests that were taken, is the definition. Assumes nothing.
+use borrow.Author.Needs.{needs}
+use Rattle.scanning.proofs.line.followed.Statement.{statement}
+use Rattle.scanning.proofs.line.followed.Tie as tie
+
+said-requires : tie.Need-said-requires
+said-requires c κs = search needs
+
+made-requires : tie.Need-made-requires
+made-requires c κs = search needs
+
+returns : tie.Need-returns
+returns c = rw (c .made .ensures, c .before .said .ensures)
+
+pub followed-spec : {M : Type 1} → statement M
+followed-spec = tie.close (tie.spec said-requires made-requires returns)

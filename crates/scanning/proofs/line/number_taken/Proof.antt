@@ -1,0 +1,27 @@
+-- `scanning::line::number_taken` meets its contract. What its callees ensure, put together with the tests that were taken, is the definition. Assumes nothing.
+use borrow.Author.Tests.{ne-eqb}
+use borrow.Author.Needs.{needs}
+use Rattle.words.specs.Scan.{numberTaken}
+use Rattle.scanning.proofs.line.number_taken.Statement.{statement}
+use Rattle.scanning.proofs.line.number_taken.Tie as tie
+
+slot-at-requires : tie.Need-slot-at-requires
+slot-at-requires c κs = search needs
+
+misplaced-requires : tie.Need-misplaced-requires
+misplaced-requires c κs = search needs
+
+returns : tie.Need-returns
+unfolding numberTaken
+returns c = rw (c .misplaced .ensures, ← c .before .before .before .slot-at .ensures .0, c .before .if1 .taken)
+
+filled-requires : tie.Need-filled-requires
+filled-requires c κs = c .before .before .slot-at .ensures .1
+
+returns-2 : tie.Need-returns-2
+unfolding numberTaken
+returns-2 c = rw (c .filled .ensures, ← c .before .before .before .slot-at .ensures .0, ne-eqb (c .before .before .before .slot-at .result .width) 0 (c .before .if1 .left))
+
+pub number-taken-spec : {M : Type 1} → statement M
+number-taken-spec =
+    tie.close (tie.spec slot-at-requires misplaced-requires returns filled-requires returns-2)

@@ -1,0 +1,67 @@
+-- `scanning::line::scan_next` meets its contract. What its callees ensure, put together with the tests that were taken, is the definition. Assumes nothing.
+use Rattle.words.specs.Scan.{scanNext}
+use borrow.Author.Needs.{needs}
+use Rattle.scanning.proofs.line.scan_next.Statement.{statement}
+use Rattle.scanning.proofs.line.scan_next.Tie as tie
+
+enum-told : tie.Need-enum-told
+enum-told c = search needs
+
+live-next-requires : tie.Need-live-next-requires
+live-next-requires c κs = search needs
+
+enum-told-2 : tie.Need-enum-told-2
+enum-told-2 c = search needs
+
+live-next-requires-2 : tie.Need-live-next-requires-2
+live-next-requires-2 c κs = search needs
+
+enum-told-3 : tie.Need-enum-told-3
+enum-told-3 c = search needs
+
+live-next-requires-3 : tie.Need-live-next-requires-3
+live-next-requires-3 c κs = search needs
+
+enum-told-4 : tie.Need-enum-told-4
+enum-told-4 c = search needs
+
+enum-told-5 : tie.Need-enum-told-5
+enum-told-5 c = search needs
+
+returns : tie.Need-returns
+unfolding scanNext
+returns c = rw (c .live-next .ensures, c .before .enum-told .given .1)
+
+returns-2 : tie.Need-returns-2
+unfolding scanNext
+returns-2 c = rw (c .live-next2 .ensures, c .before .enum-told2 .given .1)
+
+returns-3 : tie.Need-returns-3
+unfolding scanNext
+returns-3 c = rw (c .live-next3 .ensures, c .before .enum-told3 .given .1)
+
+returns-4 : tie.Need-returns-4
+unfolding scanNext
+returns-4 c = rw (c .enum-told4 .given .1)
+
+returns-5 : tie.Need-returns-5
+unfolding scanNext
+returns-5 c = rw (c .enum-told5 .given .1)
+
+pub scan-next-spec : {M : Type 1} → statement M
+scan-next-spec =
+    tie.close
+    (tie.spec
+    enum-told
+    live-next-requires
+    enum-told-2
+    live-next-requires-2
+    enum-told-3
+    live-next-requires-3
+    enum-told-4
+    enum-told-5
+    returns
+    returns-2
+    returns-3
+    returns-4
+    returns-5)
