@@ -1,15 +1,13 @@
 // The lines of the listing, put into the caller's buffer byte by byte.
 // Each function leaves the buffer with its text at `at`, and hands back the place after the text.
-use answers::answer_number;
-use rules::answers::Answer;
 ghost use Prim.Native.Nat.{_+_, _%_, _≤_, _<_};
 ghost use mathlib.Core.Path.{_≡_};
 ghost use mathlib.Core.List.{[], _∷_};
 ghost use lib.ListN.{length};
-ghost use Rattle.rules.specs.Listing.{digitsOf, decimalOf, lineOf, sheetLine};
+ghost use Rattle.rules.specs.Listing.{digitsOf, decimalOf, sheetLine};
 ghost use Rattle.lines.specs.Text.{Puts, numbersLine};
 
-fn put_byte(out: &mut [u8], at: usize, byte: u8) -> usize
+pub fn put_byte(out: &mut [u8], at: usize, byte: u8) -> usize
     requires { ⌜ at < length (now out) ⌝ }
     ensures { λ r. ⌜ Puts (now (out .entry)) at (byte ∷ []) (now (out .exit)) r ⌝ }
 {
@@ -18,7 +16,7 @@ fn put_byte(out: &mut [u8], at: usize, byte: u8) -> usize
 }
 
 // At most `left` digits: all but the last first, and then the last.
-fn put_digits(out: &mut [u8], at: usize, left: usize, n: u64) -> usize
+pub fn put_digits(out: &mut [u8], at: usize, left: usize, n: u64) -> usize
     requires { ⌜ at + left ≤ length (now out) ⌝ }
     ensures { λ r. ⌜ Puts (now (out .entry)) at (digitsOf left n) (now (out .exit)) r ⌝ }
 {
@@ -49,8 +47,8 @@ fn put_field(out: &mut [u8], at: usize, n: u64) -> usize
     put_decimal(out, from, n)
 }
 
-// Three numbers, single spaces and a newline.
-fn put_numbers(out: &mut [u8], at: usize, place: u64, number: u64, value: u64) -> usize
+// The line of one record: its place from 1, its refusal number and its value, single spaces and a newline.
+pub fn put_line(out: &mut [u8], at: usize, place: u64, number: u64, value: u64) -> usize
     requires { ⌜ at + 64 ≤ length (now out) ⌝ }
     ensures { λ r. ⌜ Puts (now (out .entry)) at (numbersLine place number value) (now (out .exit)) r ⌝ }
 {
@@ -58,17 +56,6 @@ fn put_numbers(out: &mut [u8], at: usize, place: u64, number: u64, value: u64) -
     let after_number = put_field(out, after_place, number);
     let after_value = put_field(out, after_number, value);
     put_byte(out, after_value, b'\n')
-}
-
-// The line of one record: its place from 1, its refusal number and its value. A refusal has the value 0.
-pub fn put_line(out: &mut [u8], at: usize, place: u64, answer: Answer) -> usize
-    requires { ⌜ at + 64 ≤ length (now out) ⌝ }
-    ensures { λ r. ⌜ Puts (now (out .entry)) at (lineOf place answer) (now (out .exit)) r ⌝ }
-{
-    let Answer::Accepted(value) = answer else {
-        return put_numbers(out, at, place, answer_number(answer), 0);
-    };
-    put_numbers(out, at, place, 0, value)
 }
 
 // The word "sheet" and a space.

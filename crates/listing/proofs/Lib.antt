@@ -1,4 +1,3 @@
 -- Laws that the proofs of listing cite. Assumes nothing.
-pub mod Sixteen
 pub mod Printed
 pub mod Taken

@@ -1,6 +1,5 @@
--- What the listing of a sheet is, taken or refused, and that a buffer of 262,144 bytes has room for the lines of any sheet. Assumes nothing.
-use Prim.Native.Nat.{ℕ, _*_, _/_, _≤_}
-use native.Mathlib.Omega.{arith}
+-- What the listing of a sheet is, taken or refused. Assumes nothing.
+use Prim.Native.Nat.{ℕ, _/_}
 use mathlib.Core.Path.{_≡_, refl}
 use mathlib.Core.List.{List, [], _∷_}
 use lib.ListN.{length}
@@ -8,16 +7,8 @@ use denote.Enum.Declared.{tagOf}
 use types.Run.{OneOf, miss}
 use Rattle.rules.specs.declared.steps.SheetAnswer.{SheetAnswer}
 use Rattle.rules.proofs.steps.SheetAnswer.{the-type}
-use Rattle.rules.specs.Sheet.{sheetAnswer, sheetNumber, sheetRecords, distanceOf}
-use Rattle.rules.specs.SheetLaws.{Whole, taken-whole, taken-length}
+use Rattle.rules.specs.Sheet.{sheetAnswer, sheetNumber, sheetRecords}
 use Rattle.rules.specs.Listing.{printedUpTo, sheetLine, listingBy, listingOf}
-
-pub taken-room : (b : List ℕ) → sheetAnswer b ≡ SheetAnswer.Taken → 64 * (length (sheetRecords b) / 16) ≤ 262144
-taken-room b e =
-    let w : Whole b = taken-whole b e in
-    let d : length (sheetRecords b) ≡ distanceOf b = taken-length b e in
-    let m : distanceOf b ≤ 65536 = omega (arith, w .within, w .most) in
-    rw d (omega arith)
 
 pub listing-taken :
     (b : List ℕ) → sheetAnswer b ≡ SheetAnswer.Taken

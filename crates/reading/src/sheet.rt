@@ -2,9 +2,9 @@
 use crate::reader::gives_record;
 use crate::reader::reader_next;
 use crate::reader::unread;
+use lines::put_byte;
+use lines::put_digits;
 use scanning::line::end_of;
-use texts::put_byte;
-use texts::put_digits;
 use texts::put_text;
 use words::scan::Fault;
 use words::scan::Reader;

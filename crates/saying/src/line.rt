@@ -1,10 +1,10 @@
 // The line of a record.
 use crate::tokens::tokens_of;
+use lines::put_byte;
+use lines::put_digits;
 use records::read_record;
 use rules::steps::Reading;
 use rules::steps::Step;
-use texts::put_byte;
-use texts::put_digits;
 use texts::put_letters;
 use words::tokens::Piece;
 ghost use Prim.Native.Nat.{_+_, _*_, _≤_, _<_};

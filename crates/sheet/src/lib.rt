@@ -1,10 +1,10 @@
-// The sheet: heading, records of 16 bytes, trailer of 8 bytes. Reads the trailer and hands back the part that holds the records.
+// The sheet: heading, records of 16 bytes, trailer of 8 bytes. Reads the trailer, hands back the part that holds the records, and a record of it.
 // Each function equals its definition in rules' specs/Sheet.antt.
 use rules::steps::SheetAnswer;
 ghost use Prim.Native.Nat.{_+_, _*_, _≤_};
 ghost use mathlib.Core.Path.{_≡_};
 ghost use lib.ListN.{length};
-ghost use Rattle.rules.specs.Sheet.{distanceOf, hasMark, sheetAnswer, sheetRecords};
+ghost use Rattle.rules.specs.Sheet.{distanceOf, hasMark, sheetAnswer, sheetNumber, sheetRecords, recordAt};
 
 // Four bytes, the lowest first.
 fn long(b0: u8, b1: u8, b2: u8, b3: u8) -> usize
@@ -61,4 +61,43 @@ pub fn sheet_records(b: &[u8]) -> &[u8]
     let to = b.len() - 8;
     let from = to - distance(b);
     &b[from..to]
+}
+
+// Record i of a part that holds records.
+pub fn record_at(part: &[u8], i: usize) -> [u8; 16]
+    requires { ⌜ 16 * i + 16 ≤ length (now part) ⌝ }
+    ensures { λ r. ⌜ r ≡ recordAt (now (part .entry)) i ⌝ }
+{
+    let a = 16 * i;
+    [
+        part[a],
+        part[a + 1],
+        part[a + 2],
+        part[a + 3],
+        part[a + 4],
+        part[a + 5],
+        part[a + 6],
+        part[a + 7],
+        part[a + 8],
+        part[a + 9],
+        part[a + 10],
+        part[a + 11],
+        part[a + 12],
+        part[a + 13],
+        part[a + 14],
+        part[a + 15],
+    ]
+}
+
+// The number of a sheet's answer; a sheet that is taken has 0.
+pub fn sheet_number(answer: SheetAnswer) -> u64
+    ensures { λ r. ⌜ r ≡ sheetNumber answer ⌝ }
+{
+    match answer {
+        SheetAnswer::Taken => 0,
+        SheetAnswer::TooLong => 1,
+        SheetAnswer::TooShort => 2,
+        SheetAnswer::BadMark => 3,
+        SheetAnswer::BadDistance => 4,
+    }
 }

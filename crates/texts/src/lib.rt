@@ -1,19 +1,10 @@
-// Pieces of text, put into the caller's buffer: a byte, bytes as they stand, a number's digits, a word's letters.
+// Pieces of text, put into the caller's buffer: bytes as they stand, a word's letters.
 // Each function leaves the buffer with its text at `at`, and hands back the place after the text.
+use lines::put_byte;
 ghost use Prim.Native.Nat.{_+_, _%_, _≤_, _<_};
-ghost use mathlib.Core.List.{[], _∷_};
 ghost use lib.ListN.{length};
-ghost use Rattle.rules.specs.Listing.{digitsOf};
 ghost use Rattle.lines.specs.Text.{Puts};
 ghost use Rattle.words.specs.Say.{lettersOf};
-
-pub fn put_byte(out: &mut [u8], at: usize, byte: u8) -> usize
-    requires { ⌜ at < length (now out) ⌝ }
-    ensures { λ r. ⌜ Puts (now (out .entry)) at (byte ∷ []) (now (out .exit)) r ⌝ }
-{
-    out[at] = byte;
-    at + 1
-}
 
 // All bytes of `text`, as they stand.
 pub fn put_text(out: &mut [u8], at: usize, text: &[u8]) -> usize
@@ -29,22 +20,7 @@ pub fn put_text(out: &mut [u8], at: usize, text: &[u8]) -> usize
     at + n
 }
 
-// At most `left` digits: all but the last first, and then the last.
-pub fn put_digits(out: &mut [u8], at: usize, left: usize, n: u64) -> usize
-    requires { ⌜ at + left ≤ length (now out) ⌝ }
-    ensures { λ r. ⌜ Puts (now (out .entry)) at (digitsOf left n) (now (out .exit)) r ⌝ }
-{
-    if left == 0 {
-        return at;
-    }
-    if n < 10 {
-        return put_byte(out, at, (48 + n) as u8);
-    }
-    let last = put_digits(out, at, left - 1, n / 10);
-    put_byte(out, last, (48 + n % 10) as u8)
-}
-
-// At most `left` letters, likewise.
+// At most `left` letters: all but the last first, and then the last.
 pub fn put_letters(out: &mut [u8], at: usize, left: usize, w: u64) -> usize
     requires { ⌜ at + left ≤ length (now out) ⌝ }
     ensures { λ r. ⌜ Puts (now (out .entry)) at (lettersOf left w) (now (out .exit)) r ⌝ }

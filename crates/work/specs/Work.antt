@@ -3,6 +3,7 @@ use Prim.Native.Nat.{ℕ, zero, suc, _-_}
 use mathlib.Core.Bool.{Bool, cond}
 use lib.Dec.{eqb}
 use Rattle.rules.specs.declared.tables.Tables.{Tables}
+use Rattle.rules.specs.declared.steps.Step.{Step}
 use Rattle.rules.specs.declared.steps.Reading.{Reading}
 use Rattle.rules.specs.declared.answers.Answer.{Answer}
 use Rattle.rules.specs.declared.answers.Decision.{Decision}
@@ -34,6 +35,31 @@ slotLook trip slot = looks MailAt.Nowhere (SlotAt.Given slot) (SiteAt.Given (tri
 
 abbrev pub turnLook : Look → ℕ → Look
 turnLook look turn = cond (eqb turn 0) look (slotLook (look .trip) (turn - 1))
+
+-- ---- how many message slots are looked over before the first turn
+
+-- a new message takes the lowest empty slot, and a retire asks what remains; no other step asks for anything of the kind
+abbrev pub stepScan : Step → ℕ
+stepScan (Step.Tick site n) = 0
+stepScan (Step.Begin home slot q r) = 0
+stepScan (Step.Invoke h site write object value) = 32
+stepScan (Step.Refresh h q r) = 0
+stepScan (Step.Terminate h) = 0
+stepScan (Step.Prepare h) = 0
+stepScan (Step.Ask h site) = 32
+stepScan (Step.Close h) = 0
+stepScan (Step.Tell h site) = 32
+stepScan (Step.Abort h) = 0
+stepScan (Step.Deliver m) = 0
+stepScan (Step.Drop m) = 0
+stepScan (Step.Sweep site) = 0
+stepScan (Step.Crash site) = 0
+stepScan (Step.Recover site) = 0
+stepScan (Step.Retire h) = 32
+
+abbrev pub scanCount : Reading → ℕ
+scanCount Reading.Nothing = 0
+scanCount (Reading.Known step) = stepScan step
 
 -- ---- what a turn decides
 

@@ -31,7 +31,7 @@ use Rattle.rules.specs.Machine.{lowestEmpty, mailPlace, slotPlace, sitePlace, b
 use Rattle.rules.specs.Record.{readingOf}
 use Rattle.decisions.specs.Turns.{turnAnswer, turnSeen, tripValue}
 use Rattle.decisions.specs.TurnsLaws.{sane-at, turn-is-made, turn-counts, trip-starts, turn-count-most}
-use Rattle.work.specs.Work.{readingLook, tripSite, turnLook, readingDone, turnDone, readingHead, workUpTo}
+use Rattle.work.specs.Work.{readingLook, tripSite, turnLook, stepScan, scanCount, readingDone, turnDone, readingHead, workUpTo}
 
 -- ---- what remains of a slot, found in one pass over the messages
 
@@ -74,28 +74,70 @@ pub rest-found :
 unfolding remains
 rest-found t p = some-both (λ k. isMessageOf p (messageAt t k)) (λ s. visitAt t s p .there)
 
+-- ---- what is asked of the pass, and by whom
+
+pub scan-most : (r : Reading) → scanCount r ≤ 32
+scan-most Reading.Nothing = omega arith
+scan-most (Reading.Known (Step.Tick site n)) = omega arith
+scan-most (Reading.Known (Step.Begin home slot q r)) = omega arith
+scan-most (Reading.Known (Step.Invoke h site write object value)) = omega arith
+scan-most (Reading.Known (Step.Refresh h q r)) = omega arith
+scan-most (Reading.Known (Step.Terminate h)) = omega arith
+scan-most (Reading.Known (Step.Prepare h)) = omega arith
+scan-most (Reading.Known (Step.Ask h site)) = omega arith
+scan-most (Reading.Known (Step.Close h)) = omega arith
+scan-most (Reading.Known (Step.Tell h site)) = omega arith
+scan-most (Reading.Known (Step.Abort h)) = omega arith
+scan-most (Reading.Known (Step.Deliver n)) = omega arith
+scan-most (Reading.Known (Step.Drop n)) = omega arith
+scan-most (Reading.Known (Step.Sweep site)) = omega arith
+scan-most (Reading.Known (Step.Crash site)) = omega arith
+scan-most (Reading.Known (Step.Recover site)) = omega arith
+scan-most (Reading.Known (Step.Retire h)) = omega arith
+
+-- only a new message asks for the lowest empty slot
+empty-asked :
+    (step : Step) (a b : ℕ) → (stepScan step ≡ 32 → a ≡ b)
+    → mailPlace (lookOf step .mail) a ≡ mailPlace (lookOf step .mail) b
+empty-asked (Step.Tick site n) a b e = refl
+empty-asked (Step.Begin home slot q r) a b e = refl
+empty-asked (Step.Invoke h site write object value) a b e = rw (e refl)
+empty-asked (Step.Refresh h q r) a b e = refl
+empty-asked (Step.Terminate h) a b e = refl
+empty-asked (Step.Prepare h) a b e = refl
+empty-asked (Step.Ask h site) a b e = rw (e refl)
+empty-asked (Step.Close h) a b e = refl
+empty-asked (Step.Tell h site) a b e = rw (e refl)
+empty-asked (Step.Abort h) a b e = refl
+empty-asked (Step.Deliver n) a b e = refl
+empty-asked (Step.Drop n) a b e = refl
+empty-asked (Step.Sweep site) a b e = refl
+empty-asked (Step.Crash site) a b e = refl
+empty-asked (Step.Recover site) a b e = refl
+empty-asked (Step.Retire h) a b e = refl
+
 -- only a retire asks what remains, and it names its slot itself
 rest-asked :
-    (t : Tables) (step : Step) (m : Message) (place : ℕ) (seen : Seen)
-    → decideOf step place (remains t (slotPlace (lookOf step .slot) m)) seen
-    ≡ decideOf step place (remains t (placesOf t (lookOf step) .slot)) seen
+    (t : Tables) (step : Step) (m : Message) (place : ℕ) (rest : Bool) (seen : Seen)
+    → (stepScan step ≡ 32 → rest ≡ remains t (slotPlace (lookOf step .slot) m))
+    → decideOf step place rest seen ≡ decideOf step place (remains t (placesOf t (lookOf step) .slot)) seen
 unfolding decideOf placesOf
-rest-asked t (Step.Tick site n) m place seen = refl
-rest-asked t (Step.Begin home slot q r) m place seen = refl
-rest-asked t (Step.Invoke h site write object value) m place seen = refl
-rest-asked t (Step.Refresh h q r) m place seen = refl
-rest-asked t (Step.Terminate h) m place seen = refl
-rest-asked t (Step.Prepare h) m place seen = refl
-rest-asked t (Step.Ask h site) m place seen = refl
-rest-asked t (Step.Close h) m place seen = refl
-rest-asked t (Step.Tell h site) m place seen = refl
-rest-asked t (Step.Abort h) m place seen = refl
-rest-asked t (Step.Deliver n) m place seen = refl
-rest-asked t (Step.Drop n) m place seen = refl
-rest-asked t (Step.Sweep site) m place seen = refl
-rest-asked t (Step.Crash site) m place seen = refl
-rest-asked t (Step.Recover site) m place seen = refl
-rest-asked t (Step.Retire h) m place seen = refl
+rest-asked t (Step.Tick site n) m place rest seen f = refl
+rest-asked t (Step.Begin home slot q r) m place rest seen f = refl
+rest-asked t (Step.Invoke h site write object value) m place rest seen f = refl
+rest-asked t (Step.Refresh h q r) m place rest seen f = refl
+rest-asked t (Step.Terminate h) m place rest seen f = refl
+rest-asked t (Step.Prepare h) m place rest seen f = refl
+rest-asked t (Step.Ask h site) m place rest seen f = refl
+rest-asked t (Step.Close h) m place rest seen f = refl
+rest-asked t (Step.Tell h site) m place rest seen f = refl
+rest-asked t (Step.Abort h) m place rest seen f = refl
+rest-asked t (Step.Deliver n) m place rest seen f = refl
+rest-asked t (Step.Drop n) m place rest seen f = refl
+rest-asked t (Step.Sweep site) m place rest seen f = refl
+rest-asked t (Step.Crash site) m place rest seen f = refl
+rest-asked t (Step.Recover site) m place rest seen f = refl
+rest-asked t (Step.Retire h) m place rest seen f = rw (f refl)
 
 -- ---- a turn as a runner makes it: look, decide, store
 
@@ -111,23 +153,26 @@ made t at d = record { answer = d .answer; tables = stored t at (d .left) }
 
 -- the first turn is the head
 first-turn :
-    (t : Tables) (r : Reading)
+    (t : Tables) (r : Reading) (empty : ℕ) (rest : Bool)
+    → (scanCount r ≡ 32 → empty ≡ lowestEmpty t)
+    → (scanCount r ≡ 32 → rest ≡ remains t (slotPlace (readingLook r .slot) (messageAt t 0)))
     → made
     t
-    (turnPlaces (readingLook r) (mailPlace (readingLook r .mail) (lowestEmpty t)) t)
+    (turnPlaces (readingLook r) (mailPlace (readingLook r .mail) empty) t)
     (readingDone
     r
-    (mailPlace (readingLook r .mail) (lowestEmpty t))
-    (remains t (slotPlace (readingLook r .slot) (messageAt t 0)))
-    (seenOf t (turnPlaces (readingLook r) (mailPlace (readingLook r .mail) (lowestEmpty t)) t)))
+    (mailPlace (readingLook r .mail) empty)
+    rest
+    (seenOf t (turnPlaces (readingLook r) (mailPlace (readingLook r .mail) empty) t)))
     ≡ readingHead t r
 unfolding headOf placesOf
-first-turn t Reading.Nothing =
+first-turn t Reading.Nothing empty rest e f =
     rw (stored-seen t (turnPlaces (readingLook Reading.Nothing) 0 t))
-first-turn t (Reading.Known step) =
-    ap
+first-turn t (Reading.Known step) empty rest e f =
+    rw (empty-asked step empty (lowestEmpty t) e)
+    (ap
     (made t (placesOf t (lookOf step)))
-    (rest-asked t step (messageAt t 0) (placesOf t (lookOf step) .message) (seenOf t (placesOf t (lookOf step))))
+    (rest-asked t step (messageAt t 0) (placesOf t (lookOf step) .message) rest (seenOf t (placesOf t (lookOf step))) f))
 
 -- a later turn is that of its slot
 slot-turn :
@@ -257,13 +302,13 @@ module _ (t₀ : Tables) (r : Reading) (t : Tables) (answer : Answer) where
       (empty : ℕ) (rest : Bool) (turn last : ℕ) (look : Look) (m p s b : ℕ) (d : Decision)
       → Working t₀ r t answer turn last
       → turn < last
-      → empty ≡ lowestEmpty t₀
-      → rest ≡ remains t₀ (slotPlace (readingLook r .slot) (messageAt t₀ 0))
+      → (scanCount r ≡ 32 → empty ≡ lowestEmpty t₀)
+      → (scanCount r ≡ 32 → rest ≡ remains t₀ (slotPlace (readingLook r .slot) (messageAt t₀ 0)))
       → Turned r empty rest t answer turn look m p s b d
       → workUpTo t₀ r (suc turn) ≡ made t (placesAt s p b m) d
   unfolding workUpTo
   turned-done empty rest zero last look m p s b d w l e f u =
-      rw (u .decided, u .bank, u .site, u .slot, u .mail, u .looked, e, f, ← working-first last w) (sym (first-turn t₀ r))
+      rw (u .decided, u .bank, u .site, u .slot, u .mail, u .looked, ← working-first last w) (sym (first-turn t₀ r empty rest e f))
   turned-done empty rest (suc k) last look m p s b d w l e f u =
       let h : last ≤ 17 = working-most (suc k) last w in
       rw (u .decided, u .bank, u .site, u .slot, u .mail, u .looked, later k, one-less k) (ap (turnOf (readingLook r .trip) k) (w .done) ∙ sym (slot-turn (readingLook r .trip) k t answer (omega arith)))
@@ -272,8 +317,8 @@ module _ (t₀ : Tables) (r : Reading) (t : Tables) (answer : Answer) where
       (empty : ℕ) (rest : Bool) (turn last : ℕ) (look : Look) (m p s b : ℕ) (d : Decision)
       → Working t₀ r t answer turn last
       → turn < last
-      → empty ≡ lowestEmpty t₀
-      → rest ≡ remains t₀ (slotPlace (readingLook r .slot) (messageAt t₀ 0))
+      → (scanCount r ≡ 32 → empty ≡ lowestEmpty t₀)
+      → (scanCount r ≡ 32 → rest ≡ remains t₀ (slotPlace (readingLook r .slot) (messageAt t₀ 0)))
       → Turned r empty rest t answer turn look m p s b d
       → Working t₀ r (stored t (placesAt s p b m) (d .left)) (d .answer) (turn + 1) (1 + turnCount (readingLook r .trip) (d .answer))
   working-next empty rest turn last look m p s b d w l e f u =

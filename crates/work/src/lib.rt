@@ -15,6 +15,7 @@ use rules::answers::Refusal;
 use rules::answers::Seen;
 use rules::answers::Trip;
 use rules::steps::Reading;
+use rules::steps::Step;
 use rules::tables::Message;
 use rules::tables::Visit;
 ghost use Prim.Native.Nat.{_≤_, _<_};
@@ -23,7 +24,7 @@ ghost use mathlib.Core.Bool.{_||_};
 ghost use Rattle.rules.specs.Sane.{Sane};
 ghost use Rattle.rules.specs.Machine.{isMessageOf};
 ghost use Rattle.decisions.specs.Turns.{tripValue};
-ghost use Rattle.work.specs.Work.{readingLook, tripSite, slotLook, turnLook, readingDone, slotDone, turnDone};
+ghost use Rattle.work.specs.Work.{readingLook, tripSite, slotLook, turnLook, stepScan, scanCount, readingDone, slotDone, turnDone};
 
 // Where the first turn looks. A record that stands for no step looks at site 0, and leaves what it sees.
 pub fn reading_look(reading: Reading) -> Look
@@ -64,6 +65,56 @@ pub fn turn_look(look: Look, turn: usize) -> Look
         look
     } else {
         slot_look(trip, turn - 1)
+    }
+}
+
+// How many message slots a step has looked over before its first turn.
+// Invoke, ask and tell need the lowest empty one, and a retire asks what remains; no other step uses what is found.
+fn step_scan(step: Step) -> usize
+    ensures { λ r. ⌜ r ≡ stepScan step ⌝ }
+{
+    match step {
+        Step::Tick { site: _, n: _ } => 0,
+        Step::Begin {
+            home: _,
+            slot: _,
+            quiesce: _,
+            release: _,
+        } => 0,
+        Step::Invoke {
+            handle: _,
+            site: _,
+            write: _,
+            object: _,
+            value: _,
+        } => 32,
+        Step::Refresh {
+            handle: _,
+            quiesce: _,
+            release: _,
+        } => 0,
+        Step::Terminate { handle: _ } => 0,
+        Step::Prepare { handle: _ } => 0,
+        Step::Ask { handle: _, site: _ } => 32,
+        Step::Close { handle: _ } => 0,
+        Step::Tell { handle: _, site: _ } => 32,
+        Step::Abort { handle: _ } => 0,
+        Step::Deliver { message: _ } => 0,
+        Step::Drop { message: _ } => 0,
+        Step::Sweep { site: _ } => 0,
+        Step::Crash { site: _ } => 0,
+        Step::Recover { site: _ } => 0,
+        Step::Retire { handle: _ } => 32,
+    }
+}
+
+// How many message slots are looked over before a record's work.
+pub fn scan_count(reading: Reading) -> usize
+    ensures { λ r. ⌜ r ≡ scanCount reading ⌝ }
+{
+    match reading {
+        Reading::Nothing => 0,
+        Reading::Known(step) => step_scan(step),
     }
 }
 

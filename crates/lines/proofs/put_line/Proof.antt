@@ -1,70 +1,50 @@
--- `lines::put_line` meets its contract. An accepted line has the number 0, and a refused one the value 0.
--- Assumes nothing.
+-- `lines::put_line` meets its contract. Four texts are put one after the other.
+-- Each has room, since a number has at most twenty digits. Assumes nothing.
+use native.Mathlib.Omega.{arith}
+use Prim.Native.Nat.{_≤_}
+use lib.ListN.{length}
+use denote.Ref.{now}
+use Rattle.lines.specs.Text.{put-both, digits-length}
 use borrow.Author.Needs.{needs}
-use Prim.Native.Nat.{ℕ}
-use mathlib.Core.Path.{_≡_}
-use Rattle.rules.specs.declared.answers.Answer.{Answer}
-use Rattle.rules.specs.declared.answers.Refusal.{Refusal}
-use Rattle.rules.specs.Answers.{answerNumber}
-use Rattle.rules.specs.Listing.{lineOf}
-use Rattle.lines.specs.Text.{numbersLine, line-numbers}
 use Rattle.lines.proofs.put_line.Statement.{statement}
 use Rattle.lines.proofs.put_line.Tie as tie
 
--- the line of an accepted step has the number 0
-line-accepted : (place value : ℕ) (answer : Answer) → answer ≡ Answer.Accepted value → lineOf place answer ≡ numbersLine place 0 value
-line-accepted place value answer e = rw (line-numbers, e)
+put-decimal-requires : tie.Need-put-decimal-requires
+put-decimal-requires c κs = search needs
 
--- the line of a refusal has the value 0
-line-refused : (place : ℕ) (answer : Answer) {refusal : Refusal} → answer ≡ Answer.Refused refusal
-    → lineOf place answer ≡ numbersLine place (answerNumber answer) 0
-line-refused place answer e = rw (line-numbers, e)
+put-field-requires : tie.Need-put-field-requires
+put-field-requires c κs = omega (arith, digits-length 20 (c .before .before .before .before .before .before .args .place))
 
-enum-known-answer : tie.Need-enum-known-answer
-enum-known-answer c = search needs
+put-field-requires-2 : tie.Need-put-field-requires-2
+put-field-requires-2 c κs =
+    let args = c .before .before .before .before .before .before .before .before .before .before .args in omega (arith, digits-length 20 (args .place), digits-length 20 (args .number))
 
-enum-told : tie.Need-enum-told
-enum-told c = search needs
-
-answer-number-requires : tie.Need-answer-number-requires
-answer-number-requires c κs = search needs
-
-put-numbers-requires : tie.Need-put-numbers-requires
-put-numbers-requires c κs = search needs
+put-byte-requires : tie.Need-put-byte-requires
+put-byte-requires c κs =
+    let args = c .before .before .before .before .before .before .before .before .before .before .before .before .before .before .args in
+    omega (arith, digits-length 20 (args .place), digits-length 20 (args .number), digits-length 20 (args .value))
 
 same-length : tie.Need-same-length
 same-length c = search needs
 
 returns : tie.Need-returns
 returns c =
-    let line = c .before .before in
-    let number = line .before in
-    let start = number .before .before .before .before .before in
-    rw (line-refused (start .args .place) (start .args .answer) (number .before .before .enum-told .given .1), ← number .answer-number .ensures)
-    (line .put-numbers .ensures)
-
-put-numbers-requires-2 : tie.Need-put-numbers-requires-2
-put-numbers-requires-2 c κs = search needs
-
-same-length-2 : tie.Need-same-length-2
-same-length-2 c = search needs
-
-returns-2 : tie.Need-returns-2
-returns-2 c =
-    let line = c .before .before in
-    let start = line .before .before .before .before .before .before in
-    rw (line-accepted (start .args .place) _ (start .args .answer) (line .before .before .before .answer .given .1)) (line .put-numbers2 .ensures)
+    let newline = c .before .before in
+    let second = newline .before .before .before .before in
+    let first = second .before .before .before .before in
+    let place = first .before .before .before .before in
+    let start = place .before .before .before in
+    let l : start .args .at ≤ length (now (start .args .out)) = omega arith in
+    put-both l (put-both l (put-both l (place .put-decimal .ensures) (first .put-field .ensures)) (second .put-field2 .ensures))
+    (newline .put-byte .ensures)
 
 pub put-line-spec : {M : Type 1} → statement M
 put-line-spec =
     tie.close
     (tie.spec
-    enum-known-answer
-    enum-told
-    answer-number-requires
-    put-numbers-requires
+    put-decimal-requires
+    put-field-requires
+    put-field-requires-2
+    put-byte-requires
     same-length
-    returns
-    put-numbers-requires-2
-    same-length-2
-    returns-2)
+    returns)

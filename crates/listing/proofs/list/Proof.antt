@@ -1,12 +1,13 @@
 -- `listing::list` meets its contract. In each arm the case is known, and the callees give the rest. Assumes nothing.
-use Prim.Native.Nat.{_*_, _/_, _≤_, zero-le}
+use Prim.Native.Nat.{_/_, _≤_}
 use native.Mathlib.Omega.{arith}
 use mathlib.Core.Path.{_≡_, sym, _∙_}
 use lib.ListN.{length}
-use Rattle.rules.specs.Sheet.{sheetRecords}
+use Rattle.sheet.specs.Few.{taken-few}
+use Rattle.running.specs.Answered.{answers-held}
 use Rattle.rules.specs.Listing.{sheetLine, printedUpTo}
 use Rattle.lines.specs.Text.{sheet-line-length}
-use Rattle.listing.proofs.Taken.{taken-room, listing-taken, listing-refused}
+use Rattle.listing.proofs.Taken.{listing-taken, listing-refused}
 use borrow.Author.Needs.{needs}
 use Rattle.rules.specs.Listing.{listingOf}
 use Rattle.listing.proofs.list.Statement.{statement}
@@ -37,22 +38,41 @@ returns c =
 sheet-records-requires : tie.Need-sheet-records-requires
 sheet-records-requires c κs = search needs
 
+slice-aggregate-run : tie.Need-slice-aggregate-run
+slice-aggregate-run c = search needs
+
+run-requires : tie.Need-run-requires
+run-requires c κs =
+    let sheet = c .before .before .before .before .before .before .args .sheet .now in
+    let taken = sym (c .before .before .before .before .sheet-answer .ensures) ∙ c .before .before .enum-told .given .1 in
+    let few : length (c .before .sheet-records .result .now) / 16 ≤ 4095 = rw (c .before .sheet-records .ensures) (taken-few sheet taken) in
+    (omega arith, omega (arith, few))
+
+slice-aggregate-put-lines : tie.Need-slice-aggregate-put-lines
+slice-aggregate-put-lines c = search needs
+
 put-lines-requires : tie.Need-put-lines-requires
 put-lines-requires c κs =
-    let l : length (c .before .before .before .before .before .before .args .out .now) ≡ 262144 = search needs in
-    (omega arith, rw (c .before .sheet-records .ensures, l) (taken-room (c .before .before .before .before .before .before .args .sheet .now) (sym (c .before .before .before .before .sheet-answer .ensures) ∙ c .before .before .enum-told .given .1)))
+    let ran = c .before .before .before in
+    let found = ran .before .before in
+    let start = found .before .before .before .before .before in
+    let part = found .sheet-records .result .now in
+    let taken = sym (found .before .before .before .sheet-answer .ensures) ∙ found .before .enum-told .given .1 in
+    let l : length (start .args .out .now) ≡ 262144 = search needs in
+    let few : length part / 16 ≤ 4095 = rw (found .sheet-records .ensures) (taken-few (start .args .sheet .now) taken) in
+    (omega (arith, few, ran .run .kept .1 .1 .0), omega (arith, few), answers-held part (length part / 16) _ _ (ran .run .ensures))
 
 returns-2 : tie.Need-returns-2
 returns-2 c =
-    let l : length (c .before .before .before .before .before .before .before .args .out .now) ≡ 262144 = search needs in
-    let r : 64 * (length (sheetRecords (c .before .before .before .before .before .before .before .args .sheet .now)) / 16) ≤ 262144 = taken-room (c .before .before .before .before .before .before .before .args .sheet .now) (sym (c .before .before .before .before .before .sheet-answer .ensures) ∙ c .before .before .before .enum-told .given .1) in
-    let m : c .put-lines .result ≤ 64 * (length (sheetRecords (c .before .before .before .before .before .before .before .args .sheet .now)) / 16) =
-    rw (c .before .before .sheet-records .ensures) at (c .put-lines .ensures .1) in
-    let q :
-    printedUpTo (c .before .before .sheet-records .result .now) (length (c .before .before .sheet-records .result .now) / 16) .text
-    ≡ listingOf (c .before .before .before .before .before .before .before .args .sheet .now) =
-    rw (c .before .before .sheet-records .ensures) (listing-taken (c .before .before .before .before .before .before .before .args .sheet .now) (sym (c .before .before .before .before .before .sheet-answer .ensures) ∙ c .before .before .before .enum-told .given .1)) in
-    (rw q at (c .put-lines .ensures .0), omega (arith, c .put-lines .kept .1 .1 .0))
+    let found = c .before .before .before .before .before .before in
+    let start = found .before .before .before .before .before in
+    let sheet = start .args .sheet .now in
+    let part = found .sheet-records .result .now in
+    let taken = sym (found .before .before .before .sheet-answer .ensures) ∙ found .before .enum-told .given .1 in
+    let l : length (start .args .out .now) ≡ 262144 = search needs in
+    let few : length part / 16 ≤ 4095 = rw (found .sheet-records .ensures) (taken-few sheet taken) in
+    let q : printedUpTo part (length part / 16) .text ≡ listingOf sheet = rw (found .sheet-records .ensures) (listing-taken sheet taken) in
+    (rw q at (c .put-lines .ensures .0), omega (arith, few, c .put-lines .ensures .1, c .put-lines .kept .1 .1 .1 .0))
 
 pub list-spec : {M : Type 1} → statement M
 list-spec =
@@ -64,5 +84,8 @@ list-spec =
     put-sheet-line-requires
     returns
     sheet-records-requires
+    slice-aggregate-run
+    run-requires
+    slice-aggregate-put-lines
     put-lines-requires
     returns-2)

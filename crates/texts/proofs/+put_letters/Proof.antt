@@ -14,7 +14,7 @@ use borrow.Fn.PlainCycle.{Measures, is, falls, and}
 use Rattle.texts.proofs.put_letters.Reads as put-letters
 use Rattle.texts.proofs.put_letters.Kinds as put-letters-kinds
 use Rattle.texts.proofs.+put_letters.Lts-put_letters as put-letters-lts
-use Rattle.texts.proofs.put_byte.Reads as put-byte-reads
+use Rattle.lines.proofs.put_byte.Reads as put-byte-reads
 use Rattle.texts.proofs.+put_letters.{statement}
 use Rattle.texts.proofs.+put_letters.Tie.{close}
 

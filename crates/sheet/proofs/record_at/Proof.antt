@@ -1,9 +1,9 @@
--- `listing::record_at` meets its contract. The definition computes to what the code makes. Assumes nothing.
+-- `sheet::record_at` meets its contract. The definition computes to what the code makes. Assumes nothing.
 use Prim.Native.Nat.{_*_}
-use Rattle.listing.proofs.Sixteen.{sixteen-bytes}
+use Rattle.sheet.proofs.Sixteen.{sixteen-bytes}
 use borrow.Author.Needs.{needs}
-use Rattle.listing.proofs.record_at.Statement.{statement}
-use Rattle.listing.proofs.record_at.Tie as tie
+use Rattle.sheet.proofs.record_at.Statement.{statement}
+use Rattle.sheet.proofs.record_at.Tie as tie
 
 mul-a : tie.Need-mul-a
 mul-a c = search needs

@@ -1,0 +1,2 @@
+-- Laws that the proof of running cites. Assumes nothing.
+pub mod Printed

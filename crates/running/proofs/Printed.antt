@@ -1,0 +1,70 @@
+-- A run under way: its tables are in range, so that a record on them is tried without number 20, and each record adds its answer. Assumes nothing.
+use Prim.Native.Nat.{ℕ, zero, suc, _+_, _*_, _<_, zero-le}
+use native.Mathlib.Omega.{arith}
+use native.Mathlib.Numerals.{add-one}
+use mathlib.Core.Path.{_≡_}
+use mathlib.Core.Bool.{true}
+use mathlib.Core.List.{List, [], _∷_}
+use lib.ListN.{length, set, length-set}
+use Rattle.rules.specs.declared.tables.Tables.{Tables}
+use Rattle.rules.specs.declared.steps.Reading.{Reading}
+use Rattle.rules.specs.declared.answers.Outcome.{Outcome}
+use Rattle.rules.specs.Tables.{start}
+use Rattle.rules.specs.Ranges.{inRange}
+use Rattle.rules.specs.RangesKept.{start-in-range, in-range-after-record}
+use Rattle.rules.specs.Record.{stepOfRecord, readingOf, recordInRangeOf, stepRecordOf}
+use Rattle.rules.specs.Sheet.{recordAt}
+use Rattle.rules.specs.Answers.{answerNumber, answerValue}
+use Rattle.rules.specs.Listing.{printedUpTo}
+use Rattle.lines.specs.Text.{Puts, put-one, put-both}
+use Rattle.running.specs.Answered.{answerAt, answeredUpTo}
+
+-- on tables in range number 20 is not met
+pub record-no-twenty : (t : Tables) (b : List ℕ) → inRange t ≡ true → stepRecordOf t b ≡ recordInRangeOf t b
+unfolding stepRecordOf
+record-no-twenty t b e = rw e
+
+pub printed-in-range : (part : List ℕ) (n : ℕ) → inRange (printedUpTo part n .tables) ≡ true
+unfolding printedUpTo
+printed-in-range part zero = start-in-range
+printed-in-range part (suc n) =
+    rw (record-no-twenty (printedUpTo part n .tables) (recordAt part n) (printed-in-range part n))
+    (in-range-after-record (printedUpTo part n .tables) (recordAt part n) (printed-in-range part n))
+
+-- one record more: the tables that it leaves, and its answer
+tables-next :
+    (part : List ℕ) (n : ℕ)
+    → recordInRangeOf (printedUpTo part n .tables) (recordAt part n) .tables ≡ printedUpTo part (n + 1) .tables
+unfolding printedUpTo
+tables-next part n =
+    rw (add-one, record-no-twenty (printedUpTo part n .tables) (recordAt part n) (printed-in-range part n))
+
+answer-next :
+    (part : List ℕ) (n : ℕ)
+    → recordInRangeOf (printedUpTo part n .tables) (recordAt part n) .answer ≡ answerAt part n
+answer-next part n =
+    rw (← record-no-twenty (printedUpTo part n .tables) (recordAt part n) (printed-in-range part n))
+
+-- a record's outcome, on the tables so far, leaves the next tables, and its answer is the next answer
+pub outcome-next :
+    (part : List ℕ) (n : ℕ) (t : Tables) (b : List ℕ) (r : Reading) (o : Outcome) → t ≡ printedUpTo part n .tables
+    → b ≡ recordAt part n
+    → r ≡ stepOfRecord b
+    → o ≡ readingOf t r
+    → (o .tables ≡ printedUpTo part (n + 1) .tables) × (o .answer ≡ answerAt part n)
+unfolding recordInRangeOf
+outcome-next part n t b r o e f g h = (rw (h, g, f, e) (tables-next part n), rw (h, g, f, e) (answer-next part n))
+
+-- two numbers more, stored behind those of the records before
+pub answered-next :
+    (part buf mid : List ℕ) (n number value : ℕ) → Puts buf 0 (answeredUpTo part n) mid (2 * n) → 2 * n + 1 < length mid
+    → number ≡ answerNumber (answerAt part n)
+    → value ≡ answerValue (answerAt part n)
+    → Puts buf 0 (answeredUpTo part (n + 1)) (set (set mid (2 * n) number) (2 * n + 1) value) (2 * (n + 1))
+unfolding answeredUpTo
+answered-next part buf mid n number value p h e f =
+    let d : 2 * n + 1 + 1 ≡ 2 * (n + 1) = omega arith in
+    let l : 2 * n + 1 < length (set mid (2 * n) number) = rw (length-set mid (2 * n) number) h in
+    let two : Puts mid (2 * n) (number ∷ value ∷ []) (set (set mid (2 * n) number) (2 * n + 1) value) (2 * n + 1 + 1) =
+    put-both (omega arith) (put-one mid (2 * n) number (omega arith)) (put-one (set mid (2 * n) number) (2 * n + 1) value l) in
+    rw (← d, add-one n, ← e, ← f) (put-both zero-le p two)

@@ -1,0 +1,585 @@
+-- `running::run` meets its contract. The tables stand as the definition has them up to the record; the turns of a record are its work, and the last leaves its outcome. Assumes nothing.
+use Prim.Native.Nat.{_+_, _*_, _-_, _%_, _≤_, _<_, zero-le}
+use native.Mathlib.Omega.{arith}
+use native.Mathlib.Numerals.{add-one}
+use mathlib.Core.Path.{_≡_, refl, ap, _∙_}
+use mathlib.Core.Bool.{_||_}
+use borrow.Author.Needs.{needs}
+use lib.ListN.{length, set, length-set}
+use Rattle.rules.specs.Loops.{firstUpTo, someUpTo}
+use Rattle.rules.specs.Parts.{isEmpty}
+use Rattle.rules.specs.Tables.{messageAt, visitAt}
+use Rattle.rules.specs.Machine.{lowestEmpty, slotPlace, isMessageOf, remains, stored}
+use Rattle.rules.specs.Answers.{answerNumber, answerValue}
+use Rattle.rules.specs.Listing.{printedUpTo}
+use Rattle.lines.specs.Text.{Puts, put-none}
+use Rattle.decisions.specs.TurnsLaws.{turn-count-most}
+use Rattle.work.specs.Work.{readingLook, scanCount}
+use Rattle.work.specs.WorkLaws.{placesAt, scan-most, Working, Turned, working-starts, working-counts, working-most, working-sane, working-next, working-done, rest-found}
+use Rattle.running.specs.Answered.{answeredUpTo}
+use Rattle.running.proofs.Printed.{printed-in-range, outcome-next, answered-next}
+use Rattle.running.proofs.run.Statement.{statement}
+use Rattle.running.proofs.run.Tie as tie
+
+abbrev Inv-loop2 : tie.InvT-loop2
+Inv-loop2 part n out t i reading first trip scans asked empty₀ rest₀ k₀ empty rest k =
+    (empty ≡ firstUpTo (λ m. isEmpty (messageAt t m .body)) k)
+    × (rest ≡ someUpTo (λ j. isMessageOf asked (messageAt t j) || visitAt t (j % 8) asked .there) k)
+    × (k ≤ scans)
+    × (scans ≤ 32)
+
+abbrev μ-loop2 : tie.MeasureT-loop2
+μ-loop2 part n out t i reading first trip scans asked empty₀ rest₀ k₀ empty rest k =
+    scans - k
+
+abbrev Inv-loop3 : tie.InvT-loop3
+Inv-loop3 part n out t₀ i reading first trip scans asked empty rest k answer₀ turn₀ last₀ t answer turn last =
+    Working t₀ reading t answer turn last
+
+abbrev μ-loop3 : tie.MeasureT-loop3
+μ-loop3 part n out t₀ i reading first trip scans asked empty rest k answer₀ turn₀ last₀ t answer turn last =
+    17 - turn
+
+abbrev Inv-loop : tie.InvT-loop
+Inv-loop part n out₀ t₀ i₀ out t i =
+    (t ≡ printedUpTo part i .tables)
+    × Puts out₀ 0 (answeredUpTo part i) out (2 * i)
+    × (i ≤ n)
+    × (length out ≡ length out₀)
+
+abbrev μ-loop : tie.MeasureT-loop
+μ-loop part n out₀ t₀ i₀ out t i =
+    n - i
+
+start-requires : tie.Need-start-requires Inv-loop2 μ-loop2 Inv-loop3 μ-loop3 Inv-loop μ-loop
+start-requires c κs = search needs
+
+loop-holds : tie.Need-loop-holds Inv-loop2 μ-loop2 Inv-loop3 μ-loop3 Inv-loop μ-loop
+unfolding printedUpTo answeredUpTo
+loop-holds c = (c .start .ensures, put-none _ 0, search needs, refl)
+
+record-at-requires :
+    tie.Need-record-at-requires Inv-loop2 μ-loop2 Inv-loop3 μ-loop3 Inv-loop μ-loop
+record-at-requires c κs = search needs
+
+read-record-requires :
+    tie.Need-read-record-requires Inv-loop2 μ-loop2 Inv-loop3 μ-loop3 Inv-loop μ-loop
+read-record-requires c κs = search needs
+
+reading-look-requires :
+    tie.Need-reading-look-requires Inv-loop2 μ-loop2 Inv-loop3 μ-loop3 Inv-loop μ-loop
+reading-look-requires c κs = search needs
+
+scan-count-requires :
+    tie.Need-scan-count-requires Inv-loop2 μ-loop2 Inv-loop3 μ-loop3 Inv-loop μ-loop
+scan-count-requires c κs = search needs
+
+element-copy-out-message0 :
+    tie.Need-element-copy-out-message0 Inv-loop2 μ-loop2 Inv-loop3 μ-loop3 Inv-loop μ-loop
+element-copy-out-message0 c = search needs
+
+slot-place-requires :
+    tie.Need-slot-place-requires Inv-loop2 μ-loop2 Inv-loop3 μ-loop3 Inv-loop μ-loop
+slot-place-requires c κs = search needs
+
+loop2-holds : tie.Need-loop2-holds Inv-loop2 μ-loop2 Inv-loop3 μ-loop3 Inv-loop μ-loop
+unfolding firstUpTo someUpTo
+loop2-holds c =
+    let counted = c .before .before .scan-count in
+    (refl, refl, search needs, rw (counted .ensures) (scan-most (c .before .before .before .before .read-record .result)))
+
+mul-v : tie.Need-mul-v Inv-loop2 μ-loop2 Inv-loop3 μ-loop3 Inv-loop μ-loop
+mul-v c = search needs
+
+add-v : tie.Need-add-v Inv-loop2 μ-loop2 Inv-loop3 μ-loop3 Inv-loop μ-loop
+add-v c = search needs
+
+mul-message : tie.Need-mul-message Inv-loop2 μ-loop2 Inv-loop3 μ-loop3 Inv-loop μ-loop
+mul-message c = search needs
+
+element-copy-out-message :
+    tie.Need-element-copy-out-message Inv-loop2 μ-loop2 Inv-loop3 μ-loop3 Inv-loop μ-loop
+element-copy-out-message c = search needs
+
+mul-visit : tie.Need-mul-visit Inv-loop2 μ-loop2 Inv-loop3 μ-loop3 Inv-loop μ-loop
+mul-visit c = search needs
+
+element-copy-out-visit :
+    tie.Need-element-copy-out-visit Inv-loop2 μ-loop2 Inv-loop3 μ-loop3 Inv-loop μ-loop
+element-copy-out-visit c = search needs
+
+first-next-requires :
+    tie.Need-first-next-requires Inv-loop2 μ-loop2 Inv-loop3 μ-loop3 Inv-loop μ-loop
+first-next-requires c κs = search needs
+
+rest-next-requires :
+    tie.Need-rest-next-requires Inv-loop2 μ-loop2 Inv-loop3 μ-loop3 Inv-loop μ-loop
+rest-next-requires c κs = search needs
+
+add-k : tie.Need-add-k Inv-loop2 μ-loop2 Inv-loop3 μ-loop3 Inv-loop μ-loop
+add-k c = search needs
+
+loop2-less : tie.Need-loop2-less Inv-loop2 μ-loop2 Inv-loop3 μ-loop3 Inv-loop μ-loop
+loop2-less c = search needs
+
+loop2-again : tie.Need-loop2-again Inv-loop2 μ-loop2 Inv-loop3 μ-loop3 Inv-loop μ-loop
+unfolding firstUpTo someUpTo
+loop2-again c =
+    let scan = c .before .before .before .before .before in
+    (rw (add-one, c .before .first-next .ensures, ← scan .loop2 .inv .0), rw (add-one, c .rest-next .ensures, ← scan .loop2 .inv .1), search needs, search needs)
+
+loop3-holds : tie.Need-loop3-holds Inv-loop2 μ-loop2 Inv-loop3 μ-loop3 Inv-loop μ-loop
+loop3-holds c = working-starts _ _
+
+turn-look-requires :
+    tie.Need-turn-look-requires Inv-loop2 μ-loop2 Inv-loop3 μ-loop3 Inv-loop μ-loop
+turn-look-requires c κs =
+    let work = c .before .loop3 in
+    let h : work .last ≤ 17 = working-most _ _ _ _ (work .turn) _ (work .inv) in
+    omega arith
+
+mail-place-requires :
+    tie.Need-mail-place-requires Inv-loop2 μ-loop2 Inv-loop3 μ-loop3 Inv-loop μ-loop
+mail-place-requires c κs = search needs
+
+mul-message-2 : tie.Need-mul-message-2 Inv-loop2 μ-loop2 Inv-loop3 μ-loop3 Inv-loop μ-loop
+mul-message-2 c = search needs
+
+element-copy-out-message-2 :
+    tie.Need-element-copy-out-message-2 Inv-loop2 μ-loop2 Inv-loop3 μ-loop3 Inv-loop μ-loop
+element-copy-out-message-2 c = search needs
+
+slot-place-requires-2 :
+    tie.Need-slot-place-requires-2 Inv-loop2 μ-loop2 Inv-loop3 μ-loop3 Inv-loop μ-loop
+slot-place-requires-2 c κs = search needs
+
+mul-passage : tie.Need-mul-passage Inv-loop2 μ-loop2 Inv-loop3 μ-loop3 Inv-loop μ-loop
+mul-passage c = search needs
+
+element-copy-out-passage :
+    tie.Need-element-copy-out-passage Inv-loop2 μ-loop2 Inv-loop3 μ-loop3 Inv-loop μ-loop
+element-copy-out-passage c = search needs
+
+site-place-requires :
+    tie.Need-site-place-requires Inv-loop2 μ-loop2 Inv-loop3 μ-loop3 Inv-loop μ-loop
+site-place-requires c κs = search needs
+
+bank-place-requires :
+    tie.Need-bank-place-requires Inv-loop2 μ-loop2 Inv-loop3 μ-loop3 Inv-loop μ-loop
+bank-place-requires c κs = search needs
+
+mul-b : tie.Need-mul-b Inv-loop2 μ-loop2 Inv-loop3 μ-loop3 Inv-loop μ-loop
+mul-b c = search needs
+
+mul-v-2 : tie.Need-mul-v-2 Inv-loop2 μ-loop2 Inv-loop3 μ-loop3 Inv-loop μ-loop
+mul-v-2 c = search needs
+
+add-v-2 : tie.Need-add-v-2 Inv-loop2 μ-loop2 Inv-loop3 μ-loop3 Inv-loop μ-loop
+add-v-2 c = search needs
+
+mul-site : tie.Need-mul-site Inv-loop2 μ-loop2 Inv-loop3 μ-loop3 Inv-loop μ-loop
+mul-site c = search needs
+
+element-copy-out-site :
+    tie.Need-element-copy-out-site Inv-loop2 μ-loop2 Inv-loop3 μ-loop3 Inv-loop μ-loop
+element-copy-out-site c = search needs
+
+mul-visit-2 : tie.Need-mul-visit-2 Inv-loop2 μ-loop2 Inv-loop3 μ-loop3 Inv-loop μ-loop
+mul-visit-2 c = search needs
+
+element-copy-out-visit-2 :
+    tie.Need-element-copy-out-visit-2 Inv-loop2 μ-loop2 Inv-loop3 μ-loop3 Inv-loop μ-loop
+element-copy-out-visit-2 c = search needs
+
+mul-o0 : tie.Need-mul-o0 Inv-loop2 μ-loop2 Inv-loop3 μ-loop3 Inv-loop μ-loop
+mul-o0 c = search needs
+
+element-copy-out-o0 :
+    tie.Need-element-copy-out-o0 Inv-loop2 μ-loop2 Inv-loop3 μ-loop3 Inv-loop μ-loop
+element-copy-out-o0 c = search needs
+
+add-t84 : tie.Need-add-t84 Inv-loop2 μ-loop2 Inv-loop3 μ-loop3 Inv-loop μ-loop
+add-t84 c = search needs
+
+mul-t85 : tie.Need-mul-t85 Inv-loop2 μ-loop2 Inv-loop3 μ-loop3 Inv-loop μ-loop
+mul-t85 c = search needs
+
+element-copy-out-t88 :
+    tie.Need-element-copy-out-t88 Inv-loop2 μ-loop2 Inv-loop3 μ-loop3 Inv-loop μ-loop
+element-copy-out-t88 c = search needs
+
+add-t89 : tie.Need-add-t89 Inv-loop2 μ-loop2 Inv-loop3 μ-loop3 Inv-loop μ-loop
+add-t89 c = search needs
+
+mul-t90 : tie.Need-mul-t90 Inv-loop2 μ-loop2 Inv-loop3 μ-loop3 Inv-loop μ-loop
+mul-t90 c = search needs
+
+element-copy-out-t93 :
+    tie.Need-element-copy-out-t93 Inv-loop2 μ-loop2 Inv-loop3 μ-loop3 Inv-loop μ-loop
+element-copy-out-t93 c = search needs
+
+add-o1 : tie.Need-add-o1 Inv-loop2 μ-loop2 Inv-loop3 μ-loop3 Inv-loop μ-loop
+add-o1 c = search needs
+
+mul-o1 : tie.Need-mul-o1 Inv-loop2 μ-loop2 Inv-loop3 μ-loop3 Inv-loop μ-loop
+mul-o1 c = search needs
+
+element-copy-out-o1 :
+    tie.Need-element-copy-out-o1 Inv-loop2 μ-loop2 Inv-loop3 μ-loop3 Inv-loop μ-loop
+element-copy-out-o1 c = search needs
+
+decide-turn-requires :
+    tie.Need-decide-turn-requires Inv-loop2 μ-loop2 Inv-loop3 μ-loop3 Inv-loop μ-loop
+decide-turn-requires c κs =
+    let banked = c .before .before .before .before .before .before in
+    let sited = banked .before in
+    let slotted = sited .before .before in
+    let mailed = slotted .before .before in
+    let turned = mailed .before .before .before in
+    let looked = turned .before .before .before .before .before .before in
+    let loop = looked .before .before .before .before in
+    let work = turned .loop3 in
+    let part = loop .before .before .before .before .args .part .now in
+    let h : work .last ≤ 17 = working-most _ _ _ _ (work .turn) _ (work .inv) in (
+      working-sane _ _ _ _ (work .turn) _
+          (placesAt (sited .site-place .result) (slotted .slot-place2 .result) (banked .bank-place .result) (mailed .mail-place .result))
+          (work .inv)
+          (rw (loop .loop .inv .0) (printed-in-range part (loop .loop .i)))
+          (record {
+            site = sited .site-place .ensures .1;
+            slot = slotted .slot-place2 .ensures .1;
+            bank = banked .bank-place .ensures .1;
+            message = mailed .mail-place .ensures .1;
+          }),
+      omega arith,
+      rw (looked .reading-look .ensures) (working-counts _ _ _ _ (work .turn) _ (work .inv)),
+    )
+
+array-copy-out-o0 : tie.Need-array-copy-out-o0 Inv-loop2 μ-loop2 Inv-loop3 μ-loop3 Inv-loop μ-loop
+array-copy-out-o0 c = search needs
+
+array-copy-out-o1 : tie.Need-array-copy-out-o1 Inv-loop2 μ-loop2 Inv-loop3 μ-loop3 Inv-loop μ-loop
+array-copy-out-o1 c = search needs
+
+array-copy-out-o2 : tie.Need-array-copy-out-o2 Inv-loop2 μ-loop2 Inv-loop3 μ-loop3 Inv-loop μ-loop
+array-copy-out-o2 c = search needs
+
+array-copy-out-o3 : tie.Need-array-copy-out-o3 Inv-loop2 μ-loop2 Inv-loop3 μ-loop3 Inv-loop μ-loop
+array-copy-out-o3 c = search needs
+
+mul-site-left : tie.Need-mul-site-left Inv-loop2 μ-loop2 Inv-loop3 μ-loop3 Inv-loop μ-loop
+mul-site-left c = search needs
+
+element-set-from-site-left :
+    tie.Need-element-set-from-site-left Inv-loop2 μ-loop2 Inv-loop3 μ-loop3 Inv-loop μ-loop
+element-set-from-site-left c = search needs
+
+mul-passage-left : tie.Need-mul-passage-left Inv-loop2 μ-loop2 Inv-loop3 μ-loop3 Inv-loop μ-loop
+mul-passage-left c = search needs
+
+element-set-from-passage-left :
+    tie.Need-element-set-from-passage-left Inv-loop2 μ-loop2 Inv-loop3 μ-loop3 Inv-loop μ-loop
+element-set-from-passage-left c = search needs
+
+mul-visit-left : tie.Need-mul-visit-left Inv-loop2 μ-loop2 Inv-loop3 μ-loop3 Inv-loop μ-loop
+mul-visit-left c = search needs
+
+element-set-from-visit-left :
+    tie.Need-element-set-from-visit-left Inv-loop2 μ-loop2 Inv-loop3 μ-loop3 Inv-loop μ-loop
+element-set-from-visit-left c = search needs
+
+mul-message-left : tie.Need-mul-message-left Inv-loop2 μ-loop2 Inv-loop3 μ-loop3 Inv-loop μ-loop
+mul-message-left c =
+    let mailed = c .before .before .before .before .before .before .before .before .before .before .before .before .before .before .before .before .before .before .before .before .before .before .mail-place in
+    let h : mailed .result < 32 = mailed .ensures .1 in
+    search needs
+
+element-set-from-message-left :
+    tie.Need-element-set-from-message-left Inv-loop2 μ-loop2 Inv-loop3 μ-loop3 Inv-loop μ-loop
+element-set-from-message-left c =
+    let mailed = c .before .before .before .before .before .before .before .before .before .before .before .before .before .before .before .before .before .before .before .before .before .before .mail-place in
+    let h : mailed .result < 32 = mailed .ensures .1 in
+    search needs
+
+mul-o0-2 : tie.Need-mul-o0-2 Inv-loop2 μ-loop2 Inv-loop3 μ-loop3 Inv-loop μ-loop
+mul-o0-2 c = search needs
+
+element-set-from-o0 :
+    tie.Need-element-set-from-o0 Inv-loop2 μ-loop2 Inv-loop3 μ-loop3 Inv-loop μ-loop
+element-set-from-o0 c = search needs
+
+add-o1-2 : tie.Need-add-o1-2 Inv-loop2 μ-loop2 Inv-loop3 μ-loop3 Inv-loop μ-loop
+add-o1-2 c = search needs
+
+mul-o1-2 : tie.Need-mul-o1-2 Inv-loop2 μ-loop2 Inv-loop3 μ-loop3 Inv-loop μ-loop
+mul-o1-2 c = search needs
+
+element-set-from-o1 :
+    tie.Need-element-set-from-o1 Inv-loop2 μ-loop2 Inv-loop3 μ-loop3 Inv-loop μ-loop
+element-set-from-o1 c = search needs
+
+add-o2 : tie.Need-add-o2 Inv-loop2 μ-loop2 Inv-loop3 μ-loop3 Inv-loop μ-loop
+add-o2 c = search needs
+
+mul-o2 : tie.Need-mul-o2 Inv-loop2 μ-loop2 Inv-loop3 μ-loop3 Inv-loop μ-loop
+mul-o2 c = search needs
+
+element-set-from-o2 :
+    tie.Need-element-set-from-o2 Inv-loop2 μ-loop2 Inv-loop3 μ-loop3 Inv-loop μ-loop
+element-set-from-o2 c = search needs
+
+add-o3 : tie.Need-add-o3 Inv-loop2 μ-loop2 Inv-loop3 μ-loop3 Inv-loop μ-loop
+add-o3 c = search needs
+
+mul-o3 : tie.Need-mul-o3 Inv-loop2 μ-loop2 Inv-loop3 μ-loop3 Inv-loop μ-loop
+mul-o3 c = search needs
+
+element-set-from-o3 :
+    tie.Need-element-set-from-o3 Inv-loop2 μ-loop2 Inv-loop3 μ-loop3 Inv-loop μ-loop
+element-set-from-o3 c = search needs
+
+turn-count-requires :
+    tie.Need-turn-count-requires Inv-loop2 μ-loop2 Inv-loop3 μ-loop3 Inv-loop μ-loop
+turn-count-requires c κs = search needs
+
+add-last : tie.Need-add-last Inv-loop2 μ-loop2 Inv-loop3 μ-loop3 Inv-loop μ-loop
+add-last c =
+    let decided = c .before .before .before .before .before .before .before .before .before .before .before in
+    let looked = decided .before .before .before .before .before .before .before .before .before .before .before .before .before .before .before .before .before .before .before .before .before in
+    let h : c .turn-count .result ≤ 16 =
+    rw (c .turn-count .ensures) (turn-count-most (looked .reading-look .result .trip) (decided .decide-turn .result .answer)) in
+    search needs
+
+add-turn : tie.Need-add-turn Inv-loop2 μ-loop2 Inv-loop3 μ-loop3 Inv-loop μ-loop
+add-turn c =
+    let test = c .before .before .before .before .before .before .before .before .before .before .before .before .before .before .before .before .before .before .before .before .before .before .before .before .before in
+    let work = test .before .loop3 in
+    let h : work .last ≤ 17 = working-most _ _ _ _ (work .turn) _ (work .inv) in
+    let l : work .turn < work .last = test .loop3-test .taken in
+    search needs
+
+loop3-less : tie.Need-loop3-less Inv-loop2 μ-loop2 Inv-loop3 μ-loop3 Inv-loop μ-loop
+loop3-less c =
+    let test = c .before .before .before .before .before .before .before .before .before .before .before .before .before .before .before .before .before .before .before .before .before .before .before .before .before in
+    let work = test .before .loop3 in
+    let h : work .last ≤ 17 = working-most _ _ _ _ (work .turn) _ (work .inv) in
+    let l : work .turn < work .last = test .loop3-test .taken in
+    search needs
+
+loop3-again : tie.Need-loop3-again Inv-loop2 μ-loop2 Inv-loop3 μ-loop3 Inv-loop μ-loop
+unfolding stored lowestEmpty
+loop3-again c =
+    let decided = c .before .before .before .before .before .before .before .before .before .before .before in
+    let banked = decided .before .before .before .before .before .before .before in
+    let sited = banked .before in
+    let slotted = sited .before .before in
+    let mailed = slotted .before .before in
+    let turned = mailed .before in
+    let test = turned .before in
+    let work = test .before .loop3 in
+    let all = test .before .before in
+    let scan = all .before .loop2 in
+    let asked = all .before .before in
+    let counted = asked .before .before in
+    let looked = counted .before in
+    let read = looked .before in
+    let reading = read .read-record .result in
+    let t = read .before .before .before .loop .t in
+    let k : scanCount reading ≡ 32 → scan .k ≡ 32 =
+    λ h. omega (arith, all .loop2-test .left, scan .inv .2, counted .scan-count .ensures, h) in
+    let e : scanCount reading ≡ 32 → scan .empty ≡ lowestEmpty t = λ h. rw (k h) at (scan .inv .0) in
+    let f : scanCount reading ≡ 32 → scan .rest ≡ remains t (slotPlace (readingLook reading .slot) (messageAt t 0)) =
+    λ h.
+    rw (← looked .reading-look .ensures, ← asked .slot-place .ensures .0)
+    ((rw (k h) at (scan .inv .1)) ∙ rest-found t (asked .slot-place .result)) in
+    let u :
+    Turned reading (scan .empty) (scan .rest) (work .t) (work .answer) (work .turn) (turned .turn-look .result)
+    (mailed .mail-place .result)
+    (slotted .slot-place2 .result)
+    (sited .site-place .result)
+    (banked .bank-place .result)
+    (decided .decide-turn .result) =
+    record {
+      looked = rw (← looked .reading-look .ensures) (turned .turn-look .ensures);
+      mail = mailed .mail-place .ensures .0;
+      slot = slotted .slot-place2 .ensures .0;
+      site = sited .site-place .ensures .0;
+      bank = banked .bank-place .ensures .0;
+      decided = rw (← looked .reading-look .ensures) (decided .decide-turn .ensures);
+    } in
+    rw (c .turn-count .ensures, looked .reading-look .ensures)
+    (working-next t reading (work .t) (work .answer) (scan .empty) (scan .rest) (work .turn) (work .last) _ _ _ _ _ (decided .decide-turn .result) (work .inv) (test .loop3-test .taken) e f u)
+
+answer-number-requires :
+    tie.Need-answer-number-requires Inv-loop2 μ-loop2 Inv-loop3 μ-loop3 Inv-loop μ-loop
+answer-number-requires c κs = search needs
+
+mul-out :
+    tie.Need-mul-out Inv-loop2 μ-loop2 Inv-loop3 μ-loop3 Inv-loop μ-loop
+mul-out c = search needs
+
+mul-out-2 :
+    tie.Need-mul-out-2 Inv-loop2 μ-loop2 Inv-loop3 μ-loop3 Inv-loop μ-loop
+mul-out-2 c = search needs
+
+slice-write-out :
+    tie.Need-slice-write-out Inv-loop2 μ-loop2 Inv-loop3 μ-loop3 Inv-loop μ-loop
+slice-write-out c = search needs
+
+answer-value-requires :
+    tie.Need-answer-value-requires Inv-loop2 μ-loop2 Inv-loop3 μ-loop3 Inv-loop μ-loop
+answer-value-requires c κs = search needs
+
+mul-out-3 :
+    tie.Need-mul-out-3 Inv-loop2 μ-loop2 Inv-loop3 μ-loop3 Inv-loop μ-loop
+mul-out-3 c = search needs
+
+add-out :
+    tie.Need-add-out Inv-loop2 μ-loop2 Inv-loop3 μ-loop3 Inv-loop μ-loop
+add-out c = search needs
+
+mul-out-4 :
+    tie.Need-mul-out-4 Inv-loop2 μ-loop2 Inv-loop3 μ-loop3 Inv-loop μ-loop
+mul-out-4 c = search needs
+
+slice-write-out-2 :
+    tie.Need-slice-write-out-2 Inv-loop2 μ-loop2 Inv-loop3 μ-loop3 Inv-loop μ-loop
+slice-write-out-2 c =
+    let test = c .before .before .before .before .before .before .before .before .before .before .before .before in
+    let loop = test .before .loop in
+    let h : 2 * loop .i + 1 < length (loop .out) = omega (arith, test .loop-test .taken, loop .inv .3, test .before .before .before .before .before .pre .1) in
+    rw (length-set (loop .out) (2 * loop .i)) h
+
+add-i : tie.Need-add-i Inv-loop2 μ-loop2 Inv-loop3 μ-loop3 Inv-loop μ-loop
+add-i c = search needs
+
+loop-less : tie.Need-loop-less Inv-loop2 μ-loop2 Inv-loop3 μ-loop3 Inv-loop μ-loop
+loop-less c = search needs
+
+loop-again : tie.Need-loop-again Inv-loop2 μ-loop2 Inv-loop3 μ-loop3 Inv-loop μ-loop
+loop-again c =
+    let turned = c .before .before .before in
+    let read = turned .before .before .before .before .before .before .before in
+    let found = read .before in
+    let test = found .before in
+    let opened = test .before in
+    let start = opened .before .before .before .before in
+    let work = turned .loop3 in
+    let loop = opened .loop in
+    let number = c .before .answer-number .result in
+    let value = c .answer-value .result in
+    let h : 2 * loop .i + 1 < length (loop .out) = omega (arith, test .loop-test .taken, loop .inv .3, start .pre .1) in
+    let j =
+    outcome-next (start .args .part .now) (loop .i) (loop .t) (found .record-at .result) (read .read-record .result) (record { answer = work .answer; tables = work .t }) (loop .inv .0) (found .record-at .ensures) (read .read-record .ensures)
+    (working-done (loop .t) (read .read-record .result) (work .t) (work .answer) (work .turn) (work .last) (work .inv) (omega arith)) in
+    (j .0, answered-next (start .args .part .now) _ (loop .out) (loop .i) number value (loop .inv .1) h (c .before .answer-number .ensures ∙ ap answerNumber (j .1)) (c .answer-value .ensures ∙ ap answerValue (j .1)), omega arith, length-set (set (loop .out) (2 * loop .i) number) (2 * loop .i + 1) value ∙ length-set (loop .out) (2 * loop .i) number ∙ loop .inv .3)
+
+same-length : tie.Need-same-length Inv-loop2 μ-loop2 Inv-loop3 μ-loop3 Inv-loop μ-loop
+same-length c = search needs
+
+returns : tie.Need-returns Inv-loop2 μ-loop2 Inv-loop3 μ-loop3 Inv-loop μ-loop
+returns c =
+    let e : c .before .loop .i ≡ c .before .before .before .before .before .args .n = omega arith in
+    rw e at (c .before .loop .inv .1)
+
+pub run-spec : {M : Type 1} → statement M
+run-spec =
+    tie.close
+    (tie.spec
+    Inv-loop2
+    μ-loop2
+    Inv-loop3
+    μ-loop3
+    Inv-loop
+    μ-loop
+    start-requires
+    loop-holds
+    record-at-requires
+    read-record-requires
+    reading-look-requires
+    scan-count-requires
+    element-copy-out-message0
+    slot-place-requires
+    loop2-holds
+    mul-v
+    add-v
+    mul-message
+    element-copy-out-message
+    mul-visit
+    element-copy-out-visit
+    first-next-requires
+    rest-next-requires
+    add-k
+    loop2-less
+    loop2-again
+    loop3-holds
+    turn-look-requires
+    mail-place-requires
+    mul-message-2
+    element-copy-out-message-2
+    slot-place-requires-2
+    mul-passage
+    element-copy-out-passage
+    site-place-requires
+    bank-place-requires
+    mul-b
+    mul-v-2
+    add-v-2
+    mul-site
+    element-copy-out-site
+    mul-visit-2
+    element-copy-out-visit-2
+    mul-o0
+    element-copy-out-o0
+    add-t84
+    mul-t85
+    element-copy-out-t88
+    add-t89
+    mul-t90
+    element-copy-out-t93
+    add-o1
+    mul-o1
+    element-copy-out-o1
+    decide-turn-requires
+    array-copy-out-o0
+    array-copy-out-o1
+    array-copy-out-o2
+    array-copy-out-o3
+    mul-site-left
+    element-set-from-site-left
+    mul-passage-left
+    element-set-from-passage-left
+    mul-visit-left
+    element-set-from-visit-left
+    mul-message-left
+    element-set-from-message-left
+    mul-o0-2
+    element-set-from-o0
+    add-o1-2
+    mul-o1-2
+    element-set-from-o1
+    add-o2
+    mul-o2
+    element-set-from-o2
+    add-o3
+    mul-o3
+    element-set-from-o3
+    turn-count-requires
+    add-last
+    add-turn
+    loop3-less
+    loop3-again
+    answer-number-requires
+    mul-out
+    mul-out-2
+    slice-write-out
+    answer-value-requires
+    mul-out-3
+    add-out
+    mul-out-4
+    slice-write-out-2
+    add-i
+    loop-less
+    loop-again
+    same-length
+    returns)

@@ -1,0 +1,123 @@
+// The machine at work: the records of a part, one after the other, from the start.
+// Who wants a listing, or words, or figures, takes the answers from here and knows nothing of the tables.
+use answers::answer_number;
+use answers::answer_value;
+use decisions::turns::turn_count;
+use places::look::bank_place;
+use places::look::first_next;
+use places::look::mail_place;
+use places::look::site_place;
+use places::look::slot_place;
+use records::read_record;
+use rules::answers::Answer;
+use rules::answers::Refusal;
+use rules::answers::Seen;
+use sheet::record_at;
+use tables::start::start;
+use work::decide_turn;
+use work::reading_look;
+use work::rest_next;
+use work::scan_count;
+use work::turn_look;
+ghost use Prim.Native.Nat.{_*_, _≤_};
+ghost use lib.ListN.{length};
+ghost use Rattle.lines.specs.Text.{Puts};
+ghost use Rattle.running.specs.Answered.{answeredUpTo};
+
+// The answers of the first n records of a part, run from the start: two numbers each, its refusal number and its value.
+// The tables live here and nowhere else: their elements are read and stored in place, and no table is copied.
+// Tables cannot be lent to another function, so this is one long function.
+// A record's work goes by turns, and one body serves the step's own turn and the slots of a sweep or a crash.
+pub fn run(part: &[u8], n: usize, out: &mut [u64])
+    requires { ⌜ (16 * n ≤ length (now part)) × (2 * n ≤ length (now out)) ⌝ }
+    ensures { λ r. ⌜ Puts (now (out .entry)) 0 (answeredUpTo (now (part .entry)) n) (now (out .exit)) (2 * n) ⌝ }
+{
+    let mut t = start();
+    let mut i: usize = 0;
+    while i < n {
+        let bytes = record_at(part, i);
+        let reading = read_record(bytes);
+        let first = reading_look(reading);
+        let trip = first.trip;
+        let named = first.slot;
+        // One pass over the messages, with the visits of a slot beside them, finds the lowest empty message slot
+        // and whether anything remains of the passage slot that the step names.
+        // It is made for the steps that ask: a new message for the first, a retire for the second.
+        let scans = scan_count(reading);
+        let message0 = t.messages[0];
+        let asked = slot_place(named, message0);
+        let mut empty: usize = 0;
+        let mut rest = false;
+        let mut k: usize = 0;
+        while k < scans {
+            let v = 16 * (k % 8) + asked;
+            let message = t.messages[k];
+            let visit = t.visits[v];
+            let next_empty = first_next(empty, k, message);
+            let next_rest = rest_next(rest, asked, message, visit);
+            empty = next_empty;
+            rest = next_rest;
+            k += 1;
+        }
+        let mut answer = Answer::Refused(Refusal::NoStep);
+        let mut turn: usize = 0;
+        let mut last: usize = 1;
+        while turn < last {
+            // Where this turn looks.
+            let look = turn_look(first, turn);
+            let mail = look.mail;
+            let by = look.slot;
+            let on = look.site;
+            let m = mail_place(mail, empty);
+            let message = t.messages[m];
+            let p = slot_place(by, message);
+            let passage = t.passages[p];
+            let s = site_place(on, message, passage);
+            let b = 4 * bank_place(on, message, s);
+            let v = 16 * s + p;
+            // What it sees, and what it decides.
+            let site = t.sites[s];
+            let visit = t.visits[v];
+            let objects = [
+                t.objects[b],
+                t.objects[b + 1],
+                t.objects[b + 2],
+                t.objects[b + 3],
+            ];
+            let seen = Seen {
+                site: site,
+                passage: passage,
+                visit: visit,
+                message: message,
+                objects: objects,
+            };
+            let d = decide_turn(reading, trip, turn, m, rest, answer, seen);
+            let next = d.answer;
+            let left = d.left;
+            // What it leaves, in the same places.
+            let site_left = left.site;
+            let passage_left = left.passage;
+            let visit_left = left.visit;
+            let message_left = left.message;
+            let bank = left.objects;
+            let o0 = bank[0];
+            let o1 = bank[1];
+            let o2 = bank[2];
+            let o3 = bank[3];
+            t.sites[s] = site_left;
+            t.passages[p] = passage_left;
+            t.visits[v] = visit_left;
+            t.messages[m] = message_left;
+            t.objects[b] = o0;
+            t.objects[b + 1] = o1;
+            t.objects[b + 2] = o2;
+            t.objects[b + 3] = o3;
+            answer = next;
+            last = 1 + turn_count(trip, next);
+            turn += 1;
+        }
+        out[2 * i] = answer_number(answer);
+        out[2 * i + 1] = answer_value(answer);
+        i += 1;
+    }
+}

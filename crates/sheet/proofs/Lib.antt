@@ -1,0 +1,2 @@
+-- Laws that the proofs of sheet cite. Assumes nothing.
+pub mod Sixteen

@@ -1,0 +1,2 @@
+-- How many records a sheet has. Assumes nothing.
+pub mod Few
