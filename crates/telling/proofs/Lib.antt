@@ -1,0 +1,3 @@
+-- Laws that the proofs of telling cite. Assumes nothing.
+pub mod Lines
+pub mod Taken

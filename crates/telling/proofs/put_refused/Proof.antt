@@ -1,0 +1,44 @@
+-- `telling::put_refused` meets its contract. What its callees ensure, put together, is the definition. Assumes nothing.
+use Rattle.words.specs.TextLaws.{digits-length}
+use Rattle.lines.specs.Text.{put-both}
+use lib.ListN.{length}
+use Prim.Native.Nat.{_≤_}
+use native.Mathlib.Omega.{arith}
+use borrow.Author.Needs.{needs}
+use Rattle.telling.proofs.put_refused.Statement.{statement}
+use Rattle.telling.proofs.put_refused.Tie as tie
+
+slice-aggregate-put-text : tie.Need-slice-aggregate-put-text
+slice-aggregate-put-text c = search needs
+
+put-text-requires : tie.Need-put-text-requires
+put-text-requires c κs = search needs
+
+put-digits-requires : tie.Need-put-digits-requires
+put-digits-requires c κs = search needs
+
+put-byte-requires : tie.Need-put-byte-requires
+put-byte-requires c κs = omega (arith, digits-length 20 (c .before .before .before .before .before .before .before .before .before .before .before .args .number))
+
+put-phrase-requires : tie.Need-put-phrase-requires
+put-phrase-requires c κs = omega (arith, digits-length 20 (c .before .before .before .before .before .before .before .before .before .before .before .before .before .before .before .args .number))
+
+same-length : tie.Need-same-length
+same-length c = search needs
+
+returns : tie.Need-returns
+returns c = let l : c .before .before .before .before .before .before .before .before .before .before .before .before .before .before .before .before .before .before .args .at ≤ length (c .before .before .before .before .before .before .before .before .before .before .before .before .before .before .before .before .before .before .args .out .now) = omega arith in
+    let k : c .before .before .before .before .before .before .before .before .before .before .put-digits .result ≤ length (c .before .before .before .before .before .before .before .before .before .before .put-digits .last .0) = omega (arith, digits-length 20 (c .before .before .before .before .before .before .before .before .before .before .before .before .before .before .before .before .before .before .args .number)) in
+    put-both l (put-both l (c .before .before .before .before .before .before .before .before .before .before .before .before .before .before .put-text .ensures) (c .before .before .before .before .before .before .before .before .before .before .put-digits .ensures)) (put-both k (c .before .before .before .before .before .before .put-byte .ensures) (c .before .before .put-phrase .ensures))
+
+pub put-refused-spec : {M : Type 1} → statement M
+put-refused-spec =
+    tie.close
+    (tie.spec
+    slice-aggregate-put-text
+    put-text-requires
+    put-digits-requires
+    put-byte-requires
+    put-phrase-requires
+    same-length
+    returns)

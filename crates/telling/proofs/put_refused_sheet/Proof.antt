@@ -1,0 +1,54 @@
+-- `telling::put_refused_sheet` meets its contract. What its callees ensure, put together, is the definition. Assumes nothing.
+use Rattle.telling.specs.Lengths.{sheet-phrase-length}
+use Rattle.words.specs.TextLaws.{digits-length}
+use Rattle.lines.specs.Text.{put-both}
+use lib.ListN.{length}
+use Prim.Native.Nat.{_≤_, zero-le}
+use native.Mathlib.Omega.{arith}
+use borrow.Author.Needs.{needs}
+use Rattle.telling.proofs.put_refused_sheet.Statement.{statement}
+use Rattle.telling.proofs.put_refused_sheet.Tie as tie
+
+sheet-number-requires : tie.Need-sheet-number-requires
+sheet-number-requires c κs = search needs
+
+slice-aggregate-put-text : tie.Need-slice-aggregate-put-text
+slice-aggregate-put-text c = search needs
+
+put-text-requires : tie.Need-put-text-requires
+put-text-requires c κs = search needs
+
+put-digits-requires : tie.Need-put-digits-requires
+put-digits-requires c κs = search needs
+
+put-byte-requires : tie.Need-put-byte-requires
+put-byte-requires c κs = omega (arith, digits-length 20 (c .before .before .before .before .before .before .before .before .before .before .sheet-number .result))
+
+put-sheet-phrase-requires : tie.Need-put-sheet-phrase-requires
+put-sheet-phrase-requires c κs = omega (arith, digits-length 20 (c .before .before .before .before .before .before .before .before .before .before .before .before .before .before .sheet-number .result))
+
+put-byte-requires-2 : tie.Need-put-byte-requires-2
+put-byte-requires-2 c κs = omega (arith, digits-length 20 (c .before .before .before .before .before .before .before .before .before .before .before .before .before .before .before .before .before .before .sheet-number .result), sheet-phrase-length (c .before .before .before .before .before .before .before .before .before .before .before .before .before .before .before .before .before .before .before .before .args .a))
+
+same-length : tie.Need-same-length
+same-length c = search needs
+
+returns : tie.Need-returns
+returns c = let d = digits-length 20 (c .before .before .before .before .before .before .before .before .before .before .before .before .before .before .before .before .before .before .before .before .before .sheet-number .result) in
+    let p = sheet-phrase-length (c .before .before .before .before .before .before .before .before .before .before .before .before .before .before .before .before .before .before .before .before .before .before .before .args .a) in
+    let k : c .before .before .before .before .before .before .before .before .before .before .before .before .before .before .put-digits .result ≤ length (c .before .before .before .before .before .before .before .before .before .before .before .before .before .before .put-digits .last .0) = omega (arith, d) in
+    (rw (← c .before .before .before .before .before .before .before .before .before .before .before .before .before .before .before .before .before .before .before .before .before .sheet-number .ensures) (put-both zero-le (put-both zero-le (put-both zero-le (c .before .before .before .before .before .before .before .before .before .before .before .before .before .before .before .before .before .before .put-text .ensures) (c .before .before .before .before .before .before .before .before .before .before .before .before .before .before .put-digits .ensures)) (put-both k (c .before .before .before .before .before .before .before .before .before .before .put-byte .ensures) (c .before .before .before .before .before .before .put-sheet-phrase .ensures))) (c .before .before .put-byte2 .ensures)), omega (arith, d, p))
+
+pub put-refused-sheet-spec : {M : Type 1} → statement M
+put-refused-sheet-spec =
+    tie.close
+    (tie.spec
+    sheet-number-requires
+    slice-aggregate-put-text
+    put-text-requires
+    put-digits-requires
+    put-byte-requires
+    put-sheet-phrase-requires
+    put-byte-requires-2
+    same-length
+    returns)

@@ -1,0 +1,160 @@
+-- At most how long the texts are: a record's line has at most 128 bytes, its place being at most 9,999. Assumes nothing.
+use Prim.Native.Nat.{ℕ, zero, suc, _+_, _*_, _/_, _%_, _≤_, _<_}
+use native.Mathlib.Omega.{arith}
+use mathlib.Core.Path.{_≡_, refl}
+use mathlib.Core.Bool.{Bool, true, false, cond}
+use mathlib.Core.List.{List, [], _∷_, _++_}
+use borrow.Author.Tests.{lt-ltb}
+use lib.Dec.{ltb, eqb}
+use lib.ListN.{length, getD, drop, length-append, length-take, length-drop}
+use lib.Seq.{getD-take, getD-drop}
+use Rattle.rules.specs.declared.answers.Refusal.{Refusal}
+use Rattle.rules.specs.declared.steps.Step.{Step}
+use Rattle.rules.specs.declared.steps.Reading.{Reading}
+use Rattle.rules.specs.declared.steps.SheetAnswer.{SheetAnswer}
+use Rattle.rules.specs.Listing.{digitsOf, decimalOf}
+use Rattle.rules.specs.Record.{stepOfRecord}
+use Rattle.rules.specs.RecordLaws.{Bytes16, StepFits, read-fits}
+use Rattle.rules.specs.Sheet.{sheetNumber, recordAt}
+use Rattle.words.specs.Say.{Token, lettersOf, writeTokens, readTokens, readValueTokens, otherTokens, operationTokens, restText, stepText, rawText, recordBy, recordText}
+use Rattle.words.specs.TextLaws.{digits-length, hex-length}
+use Rattle.words.specs.Tell.{refusalPhrase, sheetPhrase, refusedSheet}
+use Rattle.telling.specs.Numbers.{numberPhrase, acceptedTold, refusedTold, numbersTold, numbersLine}
+
+cond-length : (t : Bool) (x y : List ℕ) (k : ℕ) → length x ≤ k → length y ≤ k → length (cond t x y) ≤ k
+cond-length true x y k hx hy = hx
+cond-length false x y k hx hy = hy
+
+-- ---- digits
+
+abbrev tenTo : ℕ → ℕ
+tenTo zero = 1
+tenTo (suc m) = 10 * tenTo m
+
+-- a number below ten to the m + 1 has at most m + 1 digits
+pub digits-few : (k m n : ℕ) → n < 10 * tenTo m → length (digitsOf k n) ≤ suc m
+unfolding digitsOf
+digits-few zero m n h = omega arith
+digits-few (suc k) zero n h = rw (lt-ltb n 10 (omega arith)) (omega arith)
+digits-few (suc k) (suc m) n h =
+    let r : length (digitsOf k (n / 10)) ≤ suc m = digits-few k m (n / 10) (omega arith) in
+    cond-length (ltb n 10) ((48 + n) ∷ []) (digitsOf k (n / 10) ++ ((48 + n % 10) ∷ [])) (suc (suc m)) (omega arith)
+    (rw (length-append (digitsOf k (n / 10))) (omega arith))
+
+byte-digits : (n : ℕ) → n < 256 → length (digitsOf 10 n) ≤ 3
+byte-digits n h = digits-few 10 2 n (omega arith)
+
+handle-digits : (n : ℕ) → n < 65536 → length (digitsOf 10 n) ≤ 5
+handle-digits n h = digits-few 10 4 n (omega arith)
+
+pub place-digits : (n : ℕ) → n ≤ 9999 → length (decimalOf n) ≤ 4
+place-digits n h = digits-few 20 3 n (omega arith)
+
+-- ---- the words of a record
+
+rest-cond : (t : Bool) (x y : List Token) → length (restText x) ≤ 42 → length (restText y) ≤ 42 → length (restText (cond t x y)) ≤ 42
+rest-cond true x y hx hy = hx
+rest-cond false x y hx hy = hy
+
+-- what an invoke says after its site
+operation-length : (write object value : ℕ) → write < 256 → object < 256 → length (restText (operationTokens write object value)) ≤ 42
+unfolding lettersOf
+operation-length write object value hw ho =
+    let d : length (digitsOf 10 write) ≤ 3 = byte-digits write hw in
+    let o : length (digitsOf 10 object) ≤ 3 = byte-digits object ho in
+    let v : length (digitsOf 10 value) ≤ 10 = digits-length 10 value in
+    rest-cond (eqb write 1) (writeTokens object value) _ (simp (length-append) (omega (arith, o, v)))
+    (rest-cond (eqb write 0) (cond (eqb value 0) (readTokens object) (readValueTokens object value)) (otherTokens write object value)
+    (rest-cond (eqb value 0) (readTokens object) (readValueTokens object value) (simp (length-append) (omega (arith, o))) (simp (length-append) (omega (arith, o, v))))
+    (simp (length-append) (omega (arith, d, o, v))))
+
+pub step-short : (s : Step) → StepFits s → length (stepText s) ≤ 66
+unfolding stepText lettersOf
+step-short (Step.Tick site n) w = simp (length-append) (omega (arith, digits-length 10 site, digits-length 10 n))
+step-short (Step.Begin home slot q r) w =
+    simp (length-append) (omega (arith, byte-digits home (w .a), byte-digits slot (w .b), digits-length 10 q, digits-length 10 r))
+step-short (Step.Invoke h site write object value) w =
+    simp (length-append)
+    (omega (arith, handle-digits h (w .h), byte-digits site (w .a), operation-length write object value (w .b) (w .c)))
+step-short (Step.Refresh h q r) w = simp (length-append) (omega (arith, digits-length 10 h, digits-length 10 q, digits-length 10 r))
+step-short (Step.Terminate h) w = simp (length-append) (omega (arith, digits-length 10 h))
+step-short (Step.Prepare h) w = simp (length-append) (omega (arith, digits-length 10 h))
+step-short (Step.Ask h site) w = simp (length-append) (omega (arith, digits-length 10 h, digits-length 10 site))
+step-short (Step.Close h) w = simp (length-append) (omega (arith, digits-length 10 h))
+step-short (Step.Tell h site) w = simp (length-append) (omega (arith, digits-length 10 h, digits-length 10 site))
+step-short (Step.Abort h) w = simp (length-append) (omega (arith, digits-length 10 h))
+step-short (Step.Deliver m) w = simp (length-append) (omega (arith, digits-length 10 m))
+step-short (Step.Drop m) w = simp (length-append) (omega (arith, digits-length 10 m))
+step-short (Step.Sweep site) w = simp (length-append) (omega (arith, digits-length 10 site))
+step-short (Step.Crash site) w = simp (length-append) (omega (arith, digits-length 10 site))
+step-short (Step.Recover site) w = simp (length-append) (omega (arith, digits-length 10 site))
+step-short (Step.Retire h) w = simp (length-append) (omega (arith, digits-length 10 h))
+
+raw-short : (b : List ℕ) → length b ≡ 16 → length (rawText b) ≤ 66
+unfolding rawText lettersOf
+raw-short b e = omega (arith, hex-length b, e)
+
+by-short : (r : Reading) (b : List ℕ) → Bytes16 b → stepOfRecord b ≡ r → length (recordBy r b) ≤ 66
+by-short Reading.Nothing b w e = raw-short b (w .sixteen)
+by-short (Reading.Known s) b w e = step-short s (read-fits b w s e)
+
+-- the words of a record have at most 66 bytes
+pub record-short : (b : List ℕ) → Bytes16 b → length (recordText b) ≤ 66
+unfolding recordText
+record-short b w = by-short (stepOfRecord b) b w refl
+
+-- a record of a part is sixteen bytes
+pub record-bytes : (part : List ℕ) (i : ℕ) → ((k : ℕ) → getD part k 0 < 256) → 16 * i + 16 ≤ length part → Bytes16 (recordAt part i)
+record-bytes part i bytes room =
+    record {
+      sixteen = simp (length-take, length-drop) (omega arith);
+      byte = λ k h. rw (getD-take 16 (drop (16 * i) part) k 0 h, getD-drop (16 * i) part k 0) (bytes (16 * i + k));
+    }
+
+-- ---- the answer
+
+pub phrase-length : (n : ℕ) → length (numberPhrase n) ≤ 26
+unfolding numberPhrase
+phrase-length n =
+    cond-length (eqb n 1) (refusalPhrase Refusal.NoStep) _ 26 (omega arith)
+    (cond-length (eqb n 2) (refusalPhrase Refusal.BadField) _ 26 (omega arith)
+    (cond-length (eqb n 3) (refusalPhrase Refusal.NotThere) _ 26 (omega arith)
+    (cond-length (eqb n 4) (refusalPhrase Refusal.SiteDown) _ 26 (omega arith)
+    (cond-length (eqb n 5) (refusalPhrase Refusal.WrongState) _ 26 (omega arith)
+    (cond-length (eqb n 6) (refusalPhrase Refusal.NoVisit) _ 26 (omega arith)
+    (cond-length (eqb n 7) (refusalPhrase Refusal.ClockFull) _ 26 (omega arith)
+    (cond-length (eqb n 8) (refusalPhrase Refusal.Quiesced) _ 26 (omega arith)
+    (cond-length (eqb n 9) (refusalPhrase Refusal.WrongRound) _ 26 (omega arith)
+    (cond-length (eqb n 10) (refusalPhrase Refusal.Held) _ 26 (omega arith)
+    (cond-length (eqb n 11) (refusalPhrase Refusal.Full) _ 26 (omega arith)
+    (cond-length (eqb n 12) (refusalPhrase Refusal.NotClosed) _ 26 (omega arith)
+    (omega arith))))))))))))
+
+pub accepted-length : (v : ℕ) → length (acceptedTold v) ≤ 23
+accepted-length v = omega (arith, digits-length 20 v)
+
+pub refused-length : (n : ℕ) → length (refusedTold n) ≤ 56
+refused-length n = simp (length-append) (omega (arith, digits-length 20 n, phrase-length n))
+
+pub told-length : (n v : ℕ) → length (numbersTold n v) ≤ 56
+told-length n v = cond-length (eqb n 0) (acceptedTold v) (refusedTold n) 56 (omega (arith, accepted-length v)) (refused-length n)
+
+-- ---- the line of a refused sheet
+
+pub sheet-phrase-length : (a : SheetAnswer) → length (sheetPhrase a) ≤ 17
+sheet-phrase-length SheetAnswer.Taken = omega arith
+sheet-phrase-length SheetAnswer.TooLong = omega arith
+sheet-phrase-length SheetAnswer.TooShort = omega arith
+sheet-phrase-length SheetAnswer.BadMark = omega arith
+sheet-phrase-length SheetAnswer.BadDistance = omega arith
+
+pub refused-sheet-length : (a : SheetAnswer) → length (refusedSheet a) ≤ 45
+refused-sheet-length a = simp (length-append) (omega (arith, digits-length 20 (sheetNumber a), sheet-phrase-length a))
+
+-- ---- the line of a record
+
+pub numbers-line-length :
+    (place : ℕ) (b : List ℕ) (n v : ℕ) → place ≤ 9999 → length (recordText b) ≤ 66 → length (numbersLine place b n v) ≤ 128
+unfolding numbersLine
+numbers-line-length place b n v few short =
+    simp (length-append) (omega (arith, place-digits place few, short, told-length n v))
