@@ -1,5 +1,5 @@
 -- A run under way: its tables are in range, so that a record on them is tried without number 20, and each record adds its answer. Assumes nothing.
-use Prim.Native.Nat.{ℕ, zero, suc, _+_, _*_, _<_, zero-le}
+use Prim.Native.Nat.{ℕ, zero, suc, _+_, _*_, _≤_, _<_, zero-le}
 use native.Mathlib.Omega.{arith}
 use native.Mathlib.Numerals.{add-one}
 use mathlib.Core.Path.{_≡_}
@@ -8,6 +8,7 @@ use mathlib.Core.List.{List, [], _∷_}
 use lib.ListN.{length, set, length-set}
 use Rattle.rules.specs.declared.tables.Tables.{Tables}
 use Rattle.rules.specs.declared.steps.Reading.{Reading}
+use Rattle.rules.specs.declared.answers.Answer.{Answer}
 use Rattle.rules.specs.declared.answers.Outcome.{Outcome}
 use Rattle.rules.specs.Tables.{start}
 use Rattle.rules.specs.Ranges.{inRange}
@@ -55,16 +56,22 @@ pub outcome-next :
 unfolding recordInRangeOf
 outcome-next part n t b r o e f g h = (rw (h, g, f, e) (tables-next part n), rw (h, g, f, e) (answer-next part n))
 
--- two numbers more, stored behind those of the records before
+-- two stores, one behind the other, are a text of two
+pub put-two :
+    (buf : List ℕ) (at x y : ℕ) → at + 2 ≤ length buf
+    → Puts buf at (x ∷ y ∷ []) (set (set buf at x) (at + 1) y) (at + 2)
+put-two buf at x y h =
+    let e : at + 1 + 1 ≡ at + 2 = omega arith in
+    let l : at + 1 < length (set buf at x) = rw (length-set buf at x) (omega arith) in
+    rw (← e) (put-both (omega arith) (put-one buf at x (omega arith)) (put-one (set buf at x) (at + 1) y l))
+
+-- an answer more, put behind those of the records before
 pub answered-next :
-    (part buf mid : List ℕ) (n number value : ℕ) → Puts buf 0 (answeredUpTo part n) mid (2 * n) → 2 * n + 1 < length mid
-    → number ≡ answerNumber (answerAt part n)
-    → value ≡ answerValue (answerAt part n)
-    → Puts buf 0 (answeredUpTo part (n + 1)) (set (set mid (2 * n) number) (2 * n + 1) value) (2 * (n + 1))
+    (part buf mid last : List ℕ) (n : ℕ) (answer : Answer) → Puts buf 0 (answeredUpTo part n) mid (2 * n)
+    → Puts mid (2 * n) (answerNumber answer ∷ answerValue answer ∷ []) last (2 * n + 2)
+    → answer ≡ answerAt part n
+    → Puts buf 0 (answeredUpTo part (n + 1)) last (2 * (n + 1))
 unfolding answeredUpTo
-answered-next part buf mid n number value p h e f =
-    let d : 2 * n + 1 + 1 ≡ 2 * (n + 1) = omega arith in
-    let l : 2 * n + 1 < length (set mid (2 * n) number) = rw (length-set mid (2 * n) number) h in
-    let two : Puts mid (2 * n) (number ∷ value ∷ []) (set (set mid (2 * n) number) (2 * n + 1) value) (2 * n + 1 + 1) =
-    put-both (omega arith) (put-one mid (2 * n) number (omega arith)) (put-one (set mid (2 * n) number) (2 * n + 1) value l) in
-    rw (← d, add-one n, ← e, ← f) (put-both zero-le p two)
+answered-next part buf mid last n answer p q e =
+    let d : 2 * n + 2 ≡ 2 * (n + 1) = omega arith in
+    rw (← d, add-one n, ← e) (put-both zero-le p q)

@@ -1,7 +1,6 @@
 // The machine at work: the records of a part, one after the other, from the start.
 // Who wants a listing, or words, or figures, takes the answers from here and knows nothing of the tables.
 use answers::answer_number;
-use answers::answer_value;
 use decisions::turns::turn_count;
 use places::look::bank_place;
 use places::look::first_next;
@@ -19,10 +18,26 @@ use work::reading_look;
 use work::rest_next;
 use work::scan_count;
 use work::turn_look;
-ghost use Prim.Native.Nat.{_*_, _≤_};
+ghost use Prim.Native.Nat.{_+_, _*_, _≤_};
+ghost use mathlib.Core.List.{[], _∷_};
 ghost use lib.ListN.{length};
+ghost use Rattle.rules.specs.Answers.{answerNumber, answerValue};
 ghost use Rattle.lines.specs.Text.{Puts};
 ghost use Rattle.running.specs.Answered.{answeredUpTo};
+
+// The answer of a record, as two numbers: a refusal has its number and value 0, an accepted step number 0 and its value.
+fn put_answer(out: &mut [u64], at: usize, answer: Answer)
+    requires { ⌜ at + 2 ≤ length (now out) ⌝ }
+    ensures { λ r. ⌜ Puts (now (out .entry)) at (answerNumber answer ∷ answerValue answer ∷ []) (now (out .exit)) (at + 2) ⌝ }
+{
+    let Answer::Accepted(value) = answer else {
+        out[at] = answer_number(answer);
+        out[at + 1] = 0;
+        return;
+    };
+    out[at] = 0;
+    out[at + 1] = value;
+}
 
 // The answers of the first n records of a part, run from the start: two numbers each, its refusal number and its value.
 // The tables live here and nowhere else: their elements are read and stored in place, and no table is copied.
@@ -116,8 +131,7 @@ pub fn run(part: &[u8], n: usize, out: &mut [u64])
             last = 1 + turn_count(trip, next);
             turn += 1;
         }
-        out[2 * i] = answer_number(answer);
-        out[2 * i + 1] = answer_value(answer);
+        put_answer(out, 2 * i, answer);
         i += 1;
     }
 }

@@ -2,15 +2,14 @@
 use Prim.Native.Nat.{_+_, _*_, _-_, _%_, _≤_, _<_, zero-le}
 use native.Mathlib.Omega.{arith}
 use native.Mathlib.Numerals.{add-one}
-use mathlib.Core.Path.{_≡_, refl, ap, _∙_}
+use mathlib.Core.Path.{_≡_, refl, _∙_}
 use mathlib.Core.Bool.{_||_}
 use borrow.Author.Needs.{needs}
-use lib.ListN.{length, set, length-set}
+use lib.ListN.{length}
 use Rattle.rules.specs.Loops.{firstUpTo, someUpTo}
 use Rattle.rules.specs.Parts.{isEmpty}
 use Rattle.rules.specs.Tables.{messageAt, visitAt}
 use Rattle.rules.specs.Machine.{lowestEmpty, slotPlace, isMessageOf, remains, stored}
-use Rattle.rules.specs.Answers.{answerNumber, answerValue}
 use Rattle.rules.specs.Listing.{printedUpTo}
 use Rattle.lines.specs.Text.{Puts, put-none}
 use Rattle.decisions.specs.TurnsLaws.{turn-count-most}
@@ -410,45 +409,12 @@ loop3-again c =
     rw (c .turn-count .ensures, looked .reading-look .ensures)
     (working-next t reading (work .t) (work .answer) (scan .empty) (scan .rest) (work .turn) (work .last) _ _ _ _ _ (decided .decide-turn .result) (work .inv) (test .loop3-test .taken) e f u)
 
-answer-number-requires :
-    tie.Need-answer-number-requires Inv-loop2 μ-loop2 Inv-loop3 μ-loop3 Inv-loop μ-loop
-answer-number-requires c κs = search needs
+mul-put-answer : tie.Need-mul-put-answer Inv-loop2 μ-loop2 Inv-loop3 μ-loop3 Inv-loop μ-loop
+mul-put-answer c = search needs
 
-mul-out :
-    tie.Need-mul-out Inv-loop2 μ-loop2 Inv-loop3 μ-loop3 Inv-loop μ-loop
-mul-out c = search needs
-
-mul-out-2 :
-    tie.Need-mul-out-2 Inv-loop2 μ-loop2 Inv-loop3 μ-loop3 Inv-loop μ-loop
-mul-out-2 c = search needs
-
-slice-write-out :
-    tie.Need-slice-write-out Inv-loop2 μ-loop2 Inv-loop3 μ-loop3 Inv-loop μ-loop
-slice-write-out c = search needs
-
-answer-value-requires :
-    tie.Need-answer-value-requires Inv-loop2 μ-loop2 Inv-loop3 μ-loop3 Inv-loop μ-loop
-answer-value-requires c κs = search needs
-
-mul-out-3 :
-    tie.Need-mul-out-3 Inv-loop2 μ-loop2 Inv-loop3 μ-loop3 Inv-loop μ-loop
-mul-out-3 c = search needs
-
-add-out :
-    tie.Need-add-out Inv-loop2 μ-loop2 Inv-loop3 μ-loop3 Inv-loop μ-loop
-add-out c = search needs
-
-mul-out-4 :
-    tie.Need-mul-out-4 Inv-loop2 μ-loop2 Inv-loop3 μ-loop3 Inv-loop μ-loop
-mul-out-4 c = search needs
-
-slice-write-out-2 :
-    tie.Need-slice-write-out-2 Inv-loop2 μ-loop2 Inv-loop3 μ-loop3 Inv-loop μ-loop
-slice-write-out-2 c =
-    let test = c .before .before .before .before .before .before .before .before .before .before .before .before in
-    let loop = test .before .loop in
-    let h : 2 * loop .i + 1 < length (loop .out) = omega (arith, test .loop-test .taken, loop .inv .3, test .before .before .before .before .before .pre .1) in
-    rw (length-set (loop .out) (2 * loop .i)) h
+put-answer-requires :
+    tie.Need-put-answer-requires Inv-loop2 μ-loop2 Inv-loop3 μ-loop3 Inv-loop μ-loop
+put-answer-requires c κs = search needs
 
 add-i : tie.Need-add-i Inv-loop2 μ-loop2 Inv-loop3 μ-loop3 Inv-loop μ-loop
 add-i c = search needs
@@ -458,21 +424,18 @@ loop-less c = search needs
 
 loop-again : tie.Need-loop-again Inv-loop2 μ-loop2 Inv-loop3 μ-loop3 Inv-loop μ-loop
 loop-again c =
-    let turned = c .before .before .before in
+    let put = c .before .before .put-answer in
+    let turned = c .before .before .before .before .before in
     let read = turned .before .before .before .before .before .before .before in
     let found = read .before in
-    let test = found .before in
-    let opened = test .before in
-    let start = opened .before .before .before .before in
+    let opened = found .before .before in
     let work = turned .loop3 in
     let loop = opened .loop in
-    let number = c .before .answer-number .result in
-    let value = c .answer-value .result in
-    let h : 2 * loop .i + 1 < length (loop .out) = omega (arith, test .loop-test .taken, loop .inv .3, start .pre .1) in
+    let part = opened .before .before .before .before .args .part .now in
     let j =
-    outcome-next (start .args .part .now) (loop .i) (loop .t) (found .record-at .result) (read .read-record .result) (record { answer = work .answer; tables = work .t }) (loop .inv .0) (found .record-at .ensures) (read .read-record .ensures)
+    outcome-next part (loop .i) (loop .t) (found .record-at .result) (read .read-record .result) (record { answer = work .answer; tables = work .t }) (loop .inv .0) (found .record-at .ensures) (read .read-record .ensures)
     (working-done (loop .t) (read .read-record .result) (work .t) (work .answer) (work .turn) (work .last) (work .inv) (omega arith)) in
-    (j .0, answered-next (start .args .part .now) _ (loop .out) (loop .i) number value (loop .inv .1) h (c .before .answer-number .ensures ∙ ap answerNumber (j .1)) (c .answer-value .ensures ∙ ap answerValue (j .1)), omega arith, length-set (set (loop .out) (2 * loop .i) number) (2 * loop .i + 1) value ∙ length-set (loop .out) (2 * loop .i) number ∙ loop .inv .3)
+    (j .0, answered-next part _ (loop .out) _ (loop .i) (work .answer) (loop .inv .1) (put .ensures) (j .1), omega arith, put .kept .0 ∙ loop .inv .3)
 
 same-length : tie.Need-same-length Inv-loop2 μ-loop2 Inv-loop3 μ-loop3 Inv-loop μ-loop
 same-length c = search needs
@@ -569,15 +532,8 @@ run-spec =
     add-turn
     loop3-less
     loop3-again
-    answer-number-requires
-    mul-out
-    mul-out-2
-    slice-write-out
-    answer-value-requires
-    mul-out-3
-    add-out
-    mul-out-4
-    slice-write-out-2
+    mul-put-answer
+    put-answer-requires
     add-i
     loop-less
     loop-again
