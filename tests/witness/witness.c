@@ -570,6 +570,21 @@ static struct answer prepare(struct tables *t, const struct record *r)
     return open_round(t, r, KIND_PREPARE);
 }
 
+/* A message of the open round from home to the site that the record names, stamped with home's clock. */
+static struct message *round_message(struct tables *t, int m, enum message_kind kind, const struct record *r, const struct passage *passage)
+{
+    struct message *message = &t->message[m];
+    memset(message, 0, sizeof *message);
+    message->kind = kind;
+    message->source = passage->home;
+    message->destination = r->a;
+    message->handle = r->h;
+    message->stamp = t->site[passage->home].clock;
+    message->number = passage->round.number;
+    message->round_kind = passage->round.kind;
+    return message;
+}
+
 /* "ask h, a=site not home: a phase 1 message. Value: message slot." */
 static struct answer ask(struct tables *t, const struct record *r)
 {
@@ -590,16 +605,7 @@ static struct answer ask(struct tables *t, const struct record *r)
     if (m == MESSAGES)
         return refuse(11, WHY_11_FULL);
     site->clock = clock;
-    struct message *message = &t->message[m];
-    memset(message, 0, sizeof *message);
-    message->kind = PHASE_1;
-    message->source = passage->home;
-    message->destination = r->a;
-    message->handle = r->h;
-    message->stamp = clock;
-    message->number = passage->round.number;
-    message->round_kind = passage->round.kind;
-    message->new_r = passage->round.new_r;
+    round_message(t, m, PHASE_1, r, passage)->new_r = passage->round.new_r;
     return accept((uint32_t)m);
 }
 
@@ -650,16 +656,7 @@ static struct answer tell(struct tables *t, const struct record *r)
     if (m == MESSAGES)
         return refuse(11, WHY_11_FULL);
     site->clock = clock;
-    struct message *message = &t->message[m];
-    memset(message, 0, sizeof *message);
-    message->kind = PHASE_2;
-    message->source = passage->home;
-    message->destination = r->a;
-    message->handle = r->h;
-    message->stamp = clock;
-    message->number = passage->round.number;
-    message->round_kind = passage->round.kind;
-    message->new_q_or_m = phase_2_number(&passage->round);
+    round_message(t, m, PHASE_2, r, passage)->new_q_or_m = phase_2_number(&passage->round);
     return accept((uint32_t)m);
 }
 
