@@ -16,12 +16,14 @@ use Rattle.runs.specs.Types.{Status, Asked, Told, Body, Message, Tables,
 use Rattle.runs.specs.View.{viewOf}
 use Rattle.runs.specs.Steps.{ghostRun, head-accepted, stepsOf, records-are-steps}
 use Rattle.runs.specs.Sizes.{sized-start, sized-run, sized-from, sized-step}
-use Rattle.runs.specs.Holders.{Held, held-run, held-step, held-from}
+use Rattle.runs.specs.HeldStore.{Held}
+use Rattle.runs.specs.Holders.{held-run, held-step, held-from}
 use Rattle.runs.specs.Counted.{steps-drive}
 use Rattle.runs.specs.Swept.{Ripe, swept-away, swept-clock}
 use Rattle.runs.specs.Orphans.{beganCommit, isRetired, stepsAt, bodyLatest, bodyAll, mailLatest, latest, latestOfAll}
 use Rattle.runs.specs.Watch.{Known, Plain, Bounded, Watch}
-use Rattle.runs.specs.WatchSteps.{knownHead, knownTurn, knownNothing, watch-head, watch-run, watch-start}
+use Rattle.runs.specs.WatchStore.{knownHead, knownTurn}
+use Rattle.runs.specs.WatchSteps.{knownNothing, watch-head, watch-run, watch-start}
 use Rattle.runs.specs.OrphansGone.{known-commit, known-watched, known-cleared, bounded-now}
 
 -- ---- the statement

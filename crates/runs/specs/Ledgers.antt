@@ -28,7 +28,8 @@ use Rattle.runs.specs.LifeKept.{free-kept}
 use Rattle.runs.specs.Store.{nextLedgers, Fitting, fitting-kept}
 use Rattle.runs.specs.StationFits.{site-fits, lost-fits, swept-fits, crashed-fits}
 use Rattle.runs.specs.LifeFits.{begin-fits, abort-fits, retire-fits}
-use Rattle.runs.specs.RoundFits.{refresh-fits, terminate-fits, prepare-fits, ask-fits, tell-fits}
+use Rattle.runs.specs.OpenFits.{refresh-fits, terminate-fits, prepare-fits}
+use Rattle.runs.specs.MailFits.{ask-fits, tell-fits}
 use Rattle.runs.specs.CloseFits.{close-fits}
 use Rattle.runs.specs.InvokeFits.{invoke-fits}
 use Rattle.runs.specs.DeliverFits.{deliver-fits}

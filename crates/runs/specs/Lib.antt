@@ -18,29 +18,43 @@ pub mod OpenKept
 pub mod Closing
 pub mod ClosedKept
 pub mod LifeKept
--- Every accepted step is made of such changes: what a store leaves to each slot, then one file a family of steps.
+-- Every accepted step is made of such changes: what a store leaves to each slot, then a file for each family of steps, and two for deliver.
 pub mod Store
 pub mod Fits
 pub mod StationFits
 pub mod LifeFits
-pub mod RoundFits
+pub mod OpenFits
+pub mod MailFits
 pub mod CloseFits
 pub mod InvokeFits
+pub mod DeliverKept
 pub mod DeliverFits
 -- Runs: an invariant of every store holds in every run.
 pub mod Steps
 pub mod Sizes
 pub mod Clocks
+pub mod Banks
+pub mod HeldStore
+pub mod HeldSteps
 pub mod Holders
 pub mod Ledgers
 pub mod TimeRule
 pub mod PrintedRuns
 pub mod RunLaws
--- Demand 3: its definitions, what is watched of an orphan along a run, the sweep, and the theorem.
+-- Demand 3: its definitions, and what is watched of an orphan along a run: by passage, visit and message, then a file for each family of steps.
 pub mod Orphans
 pub mod Watch
 pub mod WatchKept
+pub mod WatchMailKept
+pub mod WatchPassageKept
+pub mod WatchVisitKept
+pub mod WatchStore
+pub mod WatchStations
+pub mod WatchLife
+pub mod WatchRounds
+pub mod WatchCalls
 pub mod WatchSteps
+-- The sweep, and the theorem.
 pub mod Counted
 pub mod Swept
 pub mod OrphansGone

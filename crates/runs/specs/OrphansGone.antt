@@ -22,7 +22,7 @@ use Rattle.runs.specs.Ledgers.{ledgersOf}
 use Rattle.runs.specs.RunLaws.{holds-run}
 use Rattle.runs.specs.Orphans.{beganCommit, retires, isRetired, visitLatest, bodyLatest, mailLatest, latest}
 use Rattle.runs.specs.Watch.{Known, Bounded, BoundedVisit, BoundedBody}
-use Rattle.runs.specs.WatchSteps.{knownHead, knownTurn}
+use Rattle.runs.specs.WatchStore.{knownHead, knownTurn}
 
 -- ---- what is known along a run is what the list of accepted steps says
 

@@ -1,32 +1,26 @@
--- Steps of a round keep the invariant: refresh, terminate, prepare, ask, tell. Assumes nothing.
+-- Steps that open a round keep the invariant: refresh, terminate, prepare. Assumes nothing.
 use Prim.Native.Nat.{ℕ, _+_, _%_, _<_, _≤_}
 use native.Mathlib.Omega.{arith}
 use mathlib.Core.Path.{_≡_, refl, sym, ap, _∙_, subst}
 use mathlib.Core.Logic.{_≢_, _⊎_, inl, inr}
 use mathlib.Core.Bool.{Bool, true, false, not, _||_, true≢false, false≢true}
-use borrow.Author.Tests.{eqb-false}
-use Rattle.rules.specs.LoopsLaws.{or-left, or-right, not-false}
-use Rattle.rules.specs.Tables.{siteAt, passageAt, visitAt, messageAt}
+use Rattle.rules.specs.LoopsLaws.{or-right, not-false}
+use Rattle.rules.specs.Tables.{siteAt, passageAt, messageAt}
 use Rattle.rules.specs.AnswersLaws.{Fine}
 use Rattle.rules.specs.Checks.{badHandle, badTimes}
-use Rattle.rules.specs.Parts.{isFree, isEmpty, isOver, isActive, isRunning, isAborted, isPhaseOne, isPhaseTwo, nextClock, hasAnswered, plainMessage, askedOf, askedVisit, askedStatus}
-use Rattle.rules.specs.Rounds.{openChecks, openedPassage, openDone, askChecks, sentOut, askDone, tellChecks, tellDone}
-use Rattle.rules.specs.Machine.{looksHome, lookOf, placesOf, seenOf}
-use Rattle.rules.specs.RangesLaws.{placed-places}
-use Rattle.rules.specs.Ranges.{inRange, phaseFits}
-use Rattle.rules.specs.RangesFits.{seen-says}
-use Rattle.rules.specs.RangesLaws.{seen-in-range}
-use Rattle.runs.specs.Types.{Kind, Status, Phase, Body, Tables, Step, Places}
+use Rattle.rules.specs.Parts.{isOver, isActive, isRunning, isAborted, nextClock, askedOf, askedVisit, askedStatus}
+use Rattle.rules.specs.Rounds.{openChecks, openedPassage, openDone}
+use Rattle.rules.specs.Machine.{looksHome, placesOf, seenOf}
 use Rattle.rules.specs.declared.answers.MailAt.{MailAt}
+use Rattle.runs.specs.Types.{Kind, Status, Tables}
 use Rattle.runs.specs.Put.{put, put-same}
 use Rattle.runs.specs.View.{View, Ledger, viewOf, noted}
 use Rattle.runs.specs.Clauses.{isRefresh, Holds}
 use Rattle.runs.specs.OpenKept.{opened-kept}
-use Rattle.runs.specs.MailKept.{withMail, ask-kept, tell-kept}
 use Rattle.runs.specs.TimesKept.{asked-says}
-use Rattle.runs.specs.Store.{leftView, own-mail, Fitting, noted-there, noted-same}
-use Rattle.runs.specs.Fits.{moved, moved-kept, news-kept, mail-back, visit-back, not-free}
-use Rattle.runs.specs.LifeFits.{site-says, times-say}
+use Rattle.runs.specs.Store.{leftView, Fitting, noted-there}
+use Rattle.runs.specs.Fits.{moved, moved-kept, news-kept, mail-back, not-free}
+use Rattle.runs.specs.LifeFits.{times-say}
 
 -- ---- opening a round
 
@@ -310,152 +304,3 @@ pub prepare-fits :
 unfolding placesOf
 prepare-fits t h f =
     open-fits t h Kind.Prepare _ _ f (prepare-opens (passageAt t (h % 16) .status) (not-false _ (f .1 .1 .1 .0)))
-
--- ---- ask and tell: a message from home into an empty slot
-
--- the slot was empty, and the message is of the passage
-pub sent-fits :
-    (t : Tables) (at : Places) (body : Body) (h site clock : ℕ) → siteAt t (at .site) .clock ≤ clock
-    → isEmpty (messageAt t (at .message) .body) ≡ true → isEmpty body ≡ false → h % 16 ≡ at .slot
-    → ((l : Ledger) → Holds (viewOf t (at .slot)) l → Holds (moved (viewOf t (at .slot)) (at .site) clock) l
-    → Holds (withMail (moved (viewOf t (at .slot)) (at .site) clock) (at .message) (plainMessage body (passageAt t (at .slot) .home) site h clock)) l)
-    → Fitting t at (sentOut body h site clock (seenOf t at))
-sent-fits t at body h site clock i empty full slot law =
-    record {
-      clock = i;
-      mail = inr (inl empty, inr slot);
-      own =
-          λ l y.
-          news-kept
-          _
-          _
-          _
-          (noted-same (viewOf t (at .slot)) l (at .site) (messageAt t (at .message) .source) y)
-          (visit-back
-          (viewOf t (at .slot))
-          (at .site)
-          (at .message)
-          clock
-          (passageAt t (at .slot))
-          (visitAt t (at .site) (at .slot))
-          _
-          l
-          refl
-          (rw
-          (own-mail (at .slot) (plainMessage body (passageAt t (at .slot) .home) site h clock) full slot)
-          (law l y (moved-kept (viewOf t (at .slot)) l (at .site) clock y i))));
-    }
-
-pub ask-fits :
-    (t : Tables) (h site place : ℕ) → Fine (askChecks h site (seenOf t (placesOf t (lookOf (Step.Ask h site)))))
-    → Fitting
-    t
-    (placesOf t (lookOf (Step.Ask h site)))
-    (askDone h site place (seenOf t (placesOf t (lookOf (Step.Ask h site)))) .left)
-unfolding placesOf
-ask-fits t h site place (bad, (there, (down, (wrong, (full, (taken, rest)))))) =
-    sent-fits
-    t
-    (placesOf t (lookOf (Step.Ask h site)))
-    _
-    h
-    site
-    _
-    (omega arith)
-    (not-false _ taken)
-    refl
-    refl
-    (λ l y z.
-    ask-kept
-    _
-    l
-    _
-    site
-    h
-    _
-    z
-    (not-free _ (or-left (isFree (passageAt t (h % 16) .status)) _ there))
-    (placed-places t (lookOf (Step.Ask h site)) .message)
-    (site-says site (or-right (badHandle h) _ bad))
-    (eqb-false _ _ (or-right (not (isPhaseOne (passageAt t (h % 16) .round .phase))) _ wrong)))
-
--- a round in phase 2 has a kind
-two-kind : (k : Kind) (p : Phase) → phaseFits k p ≡ true → p ≡ Phase.Two → k ≢ Kind.None
-two-kind k p f e n = false≢true (rw (n, e) at f)
-
-two-says : (p : Phase) → isPhaseTwo p ≡ true → p ≡ Phase.Two
-two-says Phase.None e = absurd (false≢true e)
-two-says Phase.One e = absurd (false≢true e)
-two-says Phase.Two e = refl
-
-pub tell-fits :
-    (t : Tables) (h site place : ℕ) → inRange t ≡ true
-    → Fine (tellChecks h site (seenOf t (placesOf t (lookOf (Step.Tell h site)))))
-    → Fitting
-    t
-    (placesOf t (lookOf (Step.Tell h site)))
-    (tellDone h site place (seenOf t (placesOf t (lookOf (Step.Tell h site)))) .left)
-unfolding placesOf
-tell-fits t h site place range (bad, (there, (down, (wrong, (full, (taken, rest)))))) =
-    sent-fits
-    t
-    (placesOf t (lookOf (Step.Tell h site)))
-    _
-    h
-    site
-    _
-    (omega arith)
-    (not-false _ taken)
-    refl
-    refl
-    (λ l y z.
-    tell-kept
-    _
-    l
-    _
-    site
-    h
-    _
-    z
-    (not-free _ (or-left (isFree (passageAt t (h % 16) .status)) _ there))
-    (placed-places t (lookOf (Step.Tell h site)) .message)
-    s<8
-    (eqb-false _ _ (or-right (not (isPhaseTwo (passageAt t (h % 16) .round .phase)) || not (hasAnswered (passageAt t (h % 16) .round) (site % 8))) _ wrong))
-    two
-    (subst (λ (x : ℕ). hasAnswered (passageAt t (h % 16) .round) x ≡ true) s%8 answered)
-    (two-kind _ _ fits two))
-  where
-    s<8 : site < 8
-    s<8 = site-says site (or-right (badHandle h) _ bad)
-
-    s%8 : site % 8 ≡ site
-    s%8 = let i : site < 8 = s<8 in omega arith
-
-    two : passageAt t (h % 16) .round .phase ≡ Phase.Two
-    two =
-        two-says
-        _
-        (not-false
-        _
-        (or-left
-        (not (isPhaseTwo (passageAt t (h % 16) .round .phase)))
-        _
-        (or-left (not (isPhaseTwo (passageAt t (h % 16) .round .phase)) || not (hasAnswered (passageAt t (h % 16) .round) (site % 8))) _ wrong)))
-
-    answered : hasAnswered (passageAt t (h % 16) .round) (site % 8) ≡ true
-    answered =
-        not-false
-        _
-        (or-right
-        (not (isPhaseTwo (passageAt t (h % 16) .round .phase)))
-        _
-        (or-left (not (isPhaseTwo (passageAt t (h % 16) .round .phase)) || not (hasAnswered (passageAt t (h % 16) .round) (site % 8))) _ wrong))
-
-    fits : phaseFits (passageAt t (h % 16) .round .kind) (passageAt t (h % 16) .round .phase) ≡ true
-    fits =
-        seen-says
-        (seenOf t (placesOf t (lookOf (Step.Tell h site))))
-        (seen-in-range t (placesOf t (lookOf (Step.Tell h site))) range (placed-places t (lookOf (Step.Tell h site))))
-        .passage
-        .round
-        .phase
