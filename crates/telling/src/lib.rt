@@ -25,14 +25,14 @@ fn put_phrase(out: &mut [u8], at: usize, number: u64) -> usize
 {
     match number {
         1 => put_text(out, at, b"no such step"),
-        2 => put_text(out, at, b"field out of range"),
+        2 => put_text(out, at, b"field or times not allowed"),
         3 => put_text(out, at, b"no such passage or message"),
         4 => put_text(out, at, b"site is down"),
-        5 => put_text(out, at, b"not in this state"),
+        5 => put_text(out, at, b"does not fit as it stands"),
         6 => put_text(out, at, b"no visit there"),
-        7 => put_text(out, at, b"clock is full"),
+        7 => put_text(out, at, b"clock would pass its end"),
         8 => put_text(out, at, b"quiesced or dead"),
-        9 => put_text(out, at, b"not of this round"),
+        9 => put_text(out, at, b"wrong round or done before"),
         10 => put_text(out, at, b"object is held"),
         11 => put_text(out, at, b"no room left"),
         12 => put_text(out, at, b"round is not closed"),

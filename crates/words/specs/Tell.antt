@@ -18,22 +18,22 @@ abbrev pub refusalPhrase : Refusal → List ℕ
 refusalPhrase Refusal.OutOfRange = 116 ∷ 97 ∷ 98 ∷ 108 ∷ 101 ∷ 115 ∷ 32 ∷ 111 ∷ 117 ∷ 116 ∷ 32 ∷ 111 ∷ 102 ∷ 32 ∷ 114 ∷ 97 ∷ 110 ∷ 103 ∷ 101 ∷ []
 -- "no such step"
 refusalPhrase Refusal.NoStep = 110 ∷ 111 ∷ 32 ∷ 115 ∷ 117 ∷ 99 ∷ 104 ∷ 32 ∷ 115 ∷ 116 ∷ 101 ∷ 112 ∷ []
--- "field out of range"
-refusalPhrase Refusal.BadField = 102 ∷ 105 ∷ 101 ∷ 108 ∷ 100 ∷ 32 ∷ 111 ∷ 117 ∷ 116 ∷ 32 ∷ 111 ∷ 102 ∷ 32 ∷ 114 ∷ 97 ∷ 110 ∷ 103 ∷ 101 ∷ []
+-- "field or times not allowed"
+refusalPhrase Refusal.BadField = 102 ∷ 105 ∷ 101 ∷ 108 ∷ 100 ∷ 32 ∷ 111 ∷ 114 ∷ 32 ∷ 116 ∷ 105 ∷ 109 ∷ 101 ∷ 115 ∷ 32 ∷ 110 ∷ 111 ∷ 116 ∷ 32 ∷ 97 ∷ 108 ∷ 108 ∷ 111 ∷ 119 ∷ 101 ∷ 100 ∷ []
 -- "no such passage or message"
 refusalPhrase Refusal.NotThere = 110 ∷ 111 ∷ 32 ∷ 115 ∷ 117 ∷ 99 ∷ 104 ∷ 32 ∷ 112 ∷ 97 ∷ 115 ∷ 115 ∷ 97 ∷ 103 ∷ 101 ∷ 32 ∷ 111 ∷ 114 ∷ 32 ∷ 109 ∷ 101 ∷ 115 ∷ 115 ∷ 97 ∷ 103 ∷ 101 ∷ []
 -- "site is down"
 refusalPhrase Refusal.SiteDown = 115 ∷ 105 ∷ 116 ∷ 101 ∷ 32 ∷ 105 ∷ 115 ∷ 32 ∷ 100 ∷ 111 ∷ 119 ∷ 110 ∷ []
--- "not in this state"
-refusalPhrase Refusal.WrongState = 110 ∷ 111 ∷ 116 ∷ 32 ∷ 105 ∷ 110 ∷ 32 ∷ 116 ∷ 104 ∷ 105 ∷ 115 ∷ 32 ∷ 115 ∷ 116 ∷ 97 ∷ 116 ∷ 101 ∷ []
+-- "does not fit as it stands"
+refusalPhrase Refusal.WrongState = 100 ∷ 111 ∷ 101 ∷ 115 ∷ 32 ∷ 110 ∷ 111 ∷ 116 ∷ 32 ∷ 102 ∷ 105 ∷ 116 ∷ 32 ∷ 97 ∷ 115 ∷ 32 ∷ 105 ∷ 116 ∷ 32 ∷ 115 ∷ 116 ∷ 97 ∷ 110 ∷ 100 ∷ 115 ∷ []
 -- "no visit there"
 refusalPhrase Refusal.NoVisit = 110 ∷ 111 ∷ 32 ∷ 118 ∷ 105 ∷ 115 ∷ 105 ∷ 116 ∷ 32 ∷ 116 ∷ 104 ∷ 101 ∷ 114 ∷ 101 ∷ []
--- "clock is full"
-refusalPhrase Refusal.ClockFull = 99 ∷ 108 ∷ 111 ∷ 99 ∷ 107 ∷ 32 ∷ 105 ∷ 115 ∷ 32 ∷ 102 ∷ 117 ∷ 108 ∷ 108 ∷ []
+-- "clock would pass its end"
+refusalPhrase Refusal.ClockFull = 99 ∷ 108 ∷ 111 ∷ 99 ∷ 107 ∷ 32 ∷ 119 ∷ 111 ∷ 117 ∷ 108 ∷ 100 ∷ 32 ∷ 112 ∷ 97 ∷ 115 ∷ 115 ∷ 32 ∷ 105 ∷ 116 ∷ 115 ∷ 32 ∷ 101 ∷ 110 ∷ 100 ∷ []
 -- "quiesced or dead"
 refusalPhrase Refusal.Quiesced = 113 ∷ 117 ∷ 105 ∷ 101 ∷ 115 ∷ 99 ∷ 101 ∷ 100 ∷ 32 ∷ 111 ∷ 114 ∷ 32 ∷ 100 ∷ 101 ∷ 97 ∷ 100 ∷ []
--- "not of this round"
-refusalPhrase Refusal.WrongRound = 110 ∷ 111 ∷ 116 ∷ 32 ∷ 111 ∷ 102 ∷ 32 ∷ 116 ∷ 104 ∷ 105 ∷ 115 ∷ 32 ∷ 114 ∷ 111 ∷ 117 ∷ 110 ∷ 100 ∷ []
+-- "wrong round or done before"
+refusalPhrase Refusal.WrongRound = 119 ∷ 114 ∷ 111 ∷ 110 ∷ 103 ∷ 32 ∷ 114 ∷ 111 ∷ 117 ∷ 110 ∷ 100 ∷ 32 ∷ 111 ∷ 114 ∷ 32 ∷ 100 ∷ 111 ∷ 110 ∷ 101 ∷ 32 ∷ 98 ∷ 101 ∷ 102 ∷ 111 ∷ 114 ∷ 101 ∷ []
 -- "object is held"
 refusalPhrase Refusal.Held = 111 ∷ 98 ∷ 106 ∷ 101 ∷ 99 ∷ 116 ∷ 32 ∷ 105 ∷ 115 ∷ 32 ∷ 104 ∷ 101 ∷ 108 ∷ 100 ∷ []
 -- "no room left"
