@@ -12,3 +12,4 @@ pub mod Tell
 pub mod TextLaws
 pub mod SheetsLaws
 pub mod ReadLaws
+pub mod TripLaws
