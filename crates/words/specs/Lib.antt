@@ -13,3 +13,5 @@ pub mod TextLaws
 pub mod SheetsLaws
 pub mod ReadLaws
 pub mod TripLaws
+pub mod KeptLaws
+pub mod AnswerLaws
