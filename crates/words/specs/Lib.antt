@@ -15,3 +15,4 @@ pub mod ReadLaws
 pub mod TripLaws
 pub mod KeptLaws
 pub mod AnswerLaws
+pub mod NumberLaws
