@@ -1,22 +1,25 @@
 -- Every text is answered: by a sheet that is taken and holds the records read, or by its first wrong line. Assumes nothing.
-use Prim.Native.Nat.{ℕ, zero, suc, _+_, _*_, _%_, _≤_, _<_}
+use Prim.Native.Nat.{ℕ, suc, _+_, _*_, _≤_, _<_}
 use native.Mathlib.Omega.{arith}
 use native.Mathlib.Nat.{add-zero}
 use mathlib.Core.Path.{_≡_, refl, sym, ap, _∙_, subst}
 use mathlib.Core.Logic.{⊎-elim}
-use mathlib.Core.Bool.{Bool, true, false, cond}
-use mathlib.Core.List.{List, [], _∷_, _++_}
-use borrow.Author.Tests.{ltb-true, ltb-false, lt-ltb, le-ltb}
+use mathlib.Core.Bool.{Bool, true, false, cond, _&&_}
+use mathlib.Core.List.{List, [], _∷_, _++_, append-nil}
+use borrow.Author.Tests.{ltb-true, ltb-false, eqb-true, lt-ltb, le-ltb}
 use lib.Dec.{ltb, eqb}
-use lib.ListN.{length}
+use lib.ListN.{length, getD, length-append}
+use lib.Seq.{getD-append-seam}
 use Rattle.rules.specs.Loops.{oneIf}
-use Rattle.rules.specs.LoopsLaws.{either}
+use Rattle.rules.specs.LoopsLaws.{and-right, either}
 use Rattle.rules.specs.declared.steps.SheetAnswer.{SheetAnswer}
-use Rattle.rules.specs.Sheet.{sheetAnswer, sheetRecords}
-use Rattle.words.specs.Types.{Fault, Stop, Verdict, Reader}
-use Rattle.words.specs.Scan.{blank, scanNext, endOf, verdictOf, lineMost, recordMost, linesMost, reading, stopped, judged, lineEnded, byteRead, nextWhile, readerNext, Read, unread, readNext, readAll, textRead}
-use Rattle.words.specs.Sheets.{sheetOf, faultLine, answerText, textMost, longLine, sheetText}
-use Rattle.words.specs.TextLaws.{read-append}
+use Rattle.rules.specs.Sheet.{trailerAt, sheetAnswer, sheetRecords}
+use Rattle.rules.specs.SheetLaws.{Whole, taken-whole}
+use Rattle.rules.specs.Listing.{decimalOf}
+use Rattle.words.specs.Types.{Fault, Scan, Stop, Verdict, Reader}
+use Rattle.words.specs.Scan.{blank, scanNext, scanAll, endOf, verdictOf, lineMost, recordMost, linesMost, reading, stopped, isGoing, judged, lineEnded, byteRead, nextWhile, readerNext, givesRecord, given, Read, unread, readNext, readAll, textRead}
+use Rattle.words.specs.Sheets.{sheetOf, phraseOf, faultLine, answerText, textMost, longLine, sheetText}
+use Rattle.words.specs.TextLaws.{read-append, going}
 use Rattle.words.specs.SheetsLaws.{made-taken, made-holds}
 use Rattle.words.specs.KeptLaws.{Kept, text-kept}
 
@@ -201,3 +204,93 @@ text-answered text =
     (λ h. Answered.Long (ltb-true textMost (length text) h) (text-long text (ltb-true textMost (length text) h)))
     (λ h. answered-by (textRead text .reader .stop) text (ltb-false textMost (length text) h) refl)
     (either (ltb textMost (length text)))
+
+-- ---- a line is no sheet: a sheet ends with its mark, a line with a newline
+
+line-no-sheet : (xs : List ℕ) → sheetAnswer (xs ++ (10 ∷ [])) ≡ SheetAnswer.Taken → ⊥
+line-no-sheet xs e =
+    let b = xs ++ (10 ∷ []) in
+    let w : Whole (xs ++ (10 ∷ [])) = taken-whole (xs ++ (10 ∷ [])) e in
+    let least : 8 ≤ length (xs ++ (10 ∷ [])) = w .least in
+    let long : length (xs ++ (10 ∷ [])) ≡ length xs + 1 = length-append xs (10 ∷ []) in
+    let last : trailerAt (xs ++ (10 ∷ [])) + 7 ≡ length xs = omega arith in
+    let mark : getD b (trailerAt b + 7) 0 ≡ 83 = eqb-true (getD b (trailerAt b + 7) 0) 83 (and-right (eqb (getD b (trailerAt b + 4) 0) 80 && eqb (getD b (trailerAt b + 5) 0) 65 && eqb (getD b (trailerAt b + 6) 0) 83) (eqb (getD b (trailerAt b + 7) 0) 83) (w .mark)) in
+    let newline : getD b (trailerAt b + 7) 0 ≡ 10 = ap (λ (k : ℕ). getD b k 0) last ∙ getD-append-seam xs 10 [] 0 in
+    omega (arith, mark, newline)
+
+-- so the three answers never look alike
+pub fault-no-sheet : (line : ℕ) (f : Fault) → sheetAnswer (faultLine line f) ≡ SheetAnswer.Taken → ⊥
+fault-no-sheet line f e =
+    line-no-sheet ((108 ∷ 105 ∷ 110 ∷ 101 ∷ 32 ∷ []) ++ decimalOf line ++ (58 ∷ 32 ∷ []) ++ phraseOf f) e
+
+pub long-no-sheet : sheetAnswer longLine ≡ SheetAnswer.BadMark
+unfolding sheetAnswer
+long-no-sheet = refl
+
+-- ---- and the other way round: what is wrong with a line after lines that are well is what is said
+
+-- the bytes of a line
+abbrev pub OneLine : List ℕ → Type 0
+OneLine [] = Unit {0}
+OneLine (b ∷ bs) = (eqb b 10 ≡ false) × OneLine bs
+
+line-byte :
+    (b lines count n : ℕ) (s : Scan) (records : List ℕ) → eqb b 10 ≡ false → n < 1000
+    → readNext (going lines count n s records) b ≡ going lines count (n + 1) (scanNext s b) records
+unfolding readNext readerNext givesRecord given
+line-byte b lines count n s records other room = rw (other, lt-ltb n 1000 room, append-nil records)
+
+line-scanned :
+    (xs : List ℕ) (lines count n : ℕ) (s : Scan) (records : List ℕ) → OneLine xs → n + length xs ≤ 1000
+    → readAll (going lines count n s records) xs ≡ going lines count (n + length xs) (scanAll s xs) records
+unfolding readAll scanAll
+line-scanned [] lines count n s records p room = rw add-zero
+line-scanned (x ∷ xs) lines count n s records p room =
+    let last : n + 1 + length xs ≡ n + suc (length xs) = omega arith in
+    ap (λ (t : Read). readAll t xs) (line-byte x lines count n s records (p .0) (omega arith))
+    ∙ line-scanned xs lines count (n + 1) (scanNext s x) records (p .1) (omega arith)
+    ∙ ap (λ (k : ℕ). going lines count k (scanAll (scanNext s x) xs) records) last
+
+-- a line that says something wrong: reading stops, and there is no record
+pub wrong-stops : (r : Reader) (f : Fault) → r .stop ≡ Stop.Going → r .lines < linesMost → verdictOf (endOf (r .scan)) ≡ Verdict.Wrong f → readerNext r 10 ≡ stopped r f
+unfolding readerNext
+wrong-stops r f going few e = rw (going, lt-ltb (r .lines) linesMost few, e)
+
+and-none : (a b : Bool) → (a && false && b) ≡ false
+and-none true b = refl
+and-none false b = refl
+
+pub wrong-gives : (r : Reader) (b : ℕ) (f : Fault) → verdictOf (endOf (r .scan)) ≡ Verdict.Wrong f → given r b ≡ []
+unfolding given givesRecord
+wrong-gives r b f e = rw (e, and-none (isGoing (r .stop) && eqb b 10 && ltb (r .lines) linesMost) (ltb (r .count) recordMost))
+
+-- after lines that are well, a line of at most 1,000 bytes that says something wrong
+module _ (front line rest : List ℕ) (lines count : ℕ) (records : List ℕ) (f : Fault)
+    (well : readAll unread front ≡ going lines count 0 blank records)
+    (few : lines < linesMost)
+    (one : OneLine line)
+    (short : length line ≤ lineMost)
+    (says : verdictOf (endOf (scanAll blank line)) ≡ Verdict.Wrong f) where
+  -- the reader stops at its end
+  line-stops : readAll unread (front ++ (line ++ (10 ∷ rest))) .reader ≡ stopped (reading lines count (0 + length line) (scanAll blank line)) f
+  unfolding readAll readNext
+  line-stops =
+      let r = reading lines count (0 + length line) (scanAll blank line) in
+      let stops : readerNext r 10 ≡ stopped r f = wrong-stops r f refl few says in
+      ap (λ (t : Read). t .reader) (
+      read-append unread front (line ++ (10 ∷ rest))
+      ∙ ap (λ (t : Read). readAll t (line ++ (10 ∷ rest))) well
+      ∙ read-append (going lines count 0 blank records) line (10 ∷ rest)
+      ∙ ap (λ (t : Read). readAll (readNext t 10) rest) (line-scanned line lines count 0 blank records one (omega arith))
+      )
+      ∙ stopped-stays (readNext (going lines count (0 + length line) (scanAll blank line) records) 10) rest f (ap (λ (x : Reader). x .stop) stops)
+      ∙ stops
+
+  -- and passwrite names it; the text's last line needs no newline
+  pub wrong-named :
+      (text : List ℕ) → front ++ (line ++ (10 ∷ rest)) ≡ text ++ (10 ∷ []) → length text ≤ textMost
+      → sheetText text ≡ faultLine (lines + 1) f
+  wrong-named text split fits =
+      let same : textRead text .reader ≡ stopped (reading lines count (0 + length line) (scanAll blank line)) f = ap (λ (t : Read). t .reader) (sym (whole-read text)) ∙ ap (λ (xs : List ℕ). readAll unread xs .reader) (sym split) ∙ line-stops in
+      text-fault text f fits (ap (λ (r : Reader). r .stop) same)
+      ∙ ap (λ (r : Reader). faultLine (r .lines + 1) f) same

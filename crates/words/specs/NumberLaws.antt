@@ -1,20 +1,20 @@
 -- Numbers in a line: one that fits its field is stored as it is, and one that is too large is an error, not a wrap. Assumes nothing.
-use Prim.Native.Nat.{ℕ, zero, suc, _+_, _*_, _-_, _^_, _≤_, _<_}
+use Prim.Native.Nat.{ℕ, _+_, _*_, _-_, _^_, _≤_, _<_}
 use native.Mathlib.Omega.{arith}
 use native.Mathlib.Nat.{zero-add}
 use mathlib.Core.Path.{_≡_, refl, sym, ap, _∙_, subst}
 use mathlib.Core.Logic.{⊎-elim}
-use mathlib.Core.Bool.{Bool, true, false, cond, _&&_, _||_}
-use mathlib.Core.List.{List, [], _∷_, _++_, map}
+use mathlib.Core.Bool.{Bool, true, false, _||_}
+use mathlib.Core.List.{List, [], _∷_, _++_}
 use borrow.Author.Tests.{ltb-true, ltb-false, lt-ltb, le-ltb, eqb-true}
 use lib.Dec.{ltb, eqb}
 use lib.ListN.{List·getD-eq-default}
 use Rattle.rules.specs.Loops.{everyUpTo}
 use Rattle.rules.specs.LoopsLaws.{either, every-at}
 use Rattle.rules.specs.RecordLaws.{Each, each-at}
-use Rattle.words.specs.Types.{Slot, Fault, Mode, Scan, Verdict, Stop, Reader}
+use Rattle.words.specs.Types.{Slot, Fault, Mode, Scan, Verdict}
 use Rattle.words.specs.Grammar.{none, slots, slotAt, mostIn, rawNode, stored}
-use Rattle.words.specs.Scan.{isSpace, isHash, at, blank, numberTaken, endOf, scanNext, scanAll, verdictBy, verdictOf, recordMost, linesMost, stopped, isGoing, readerNext, givesRecord, given}
+use Rattle.words.specs.Scan.{isSpace, isHash, at, blank, numberTaken, endOf, scanNext, scanAll, verdictBy, verdictOf}
 use Rattle.words.specs.Spelling.{end-again, space-ends, wrong-stays, comment-verdict}
 use Rattle.words.specs.ScanLaws.{scan-append, digit-first, digit-more, most-in}
 
@@ -47,10 +47,6 @@ pub most-at-place : (node : ℕ) → eqb (slotAt node .width) 0 ≡ false → mo
 most-at-place node takes =
     eqb-true (mostIn (slotAt node .width) + 1) (256 ^ slotAt node .width)
     (or-second (eqb (slotAt node .width) 0) (eqb (mostIn (slotAt node .width) + 1) (256 ^ slotAt node .width)) (place-wide node) takes)
-
-and-none : (a b : Bool) → (a && false && b) ≡ false
-and-none true b = refl
-and-none false b = refl
 
 -- the place of `raw` takes none
 place-plain : (node : ℕ) → eqb (slotAt node .width) 0 ≡ false → eqb node rawNode ≡ false
@@ -197,13 +193,3 @@ too-large front node digits bytes d ds rest there takes all more ends =
     )
     ∙ ended-wrong (scanAll (at Mode.Gap 0 node digits bytes) (digitText (d ∷ ds))) Fault.TooLarge rest
     (ap (λ (s : Scan). s .mode) (digits-large node digits bytes takes d ds all more)) ends
-
--- ---- a line that says something wrong: reading stops, and there is no record
-
-pub wrong-stops : (r : Reader) (f : Fault) → r .stop ≡ Stop.Going → r .lines < linesMost → verdictOf (endOf (r .scan)) ≡ Verdict.Wrong f → readerNext r 10 ≡ stopped r f
-unfolding readerNext
-wrong-stops r f going few e = rw (going, lt-ltb (r .lines) linesMost few, e)
-
-pub wrong-gives : (r : Reader) (b : ℕ) (f : Fault) → verdictOf (endOf (r .scan)) ≡ Verdict.Wrong f → given r b ≡ []
-unfolding given givesRecord
-wrong-gives r b f e = rw (e, and-none (isGoing (r .stop) && eqb b 10 && ltb (r .lines) linesMost) (ltb (r .count) recordMost))

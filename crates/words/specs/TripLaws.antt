@@ -13,7 +13,7 @@ use Rattle.rules.specs.LoopsLaws.{and-left, and-right}
 use Rattle.rules.specs.RecordLaws.{each-at}
 use Rattle.rules.specs.declared.steps.SheetAnswer.{SheetAnswer}
 use Rattle.rules.specs.Sheet.{trailerAt, distanceOf, sheetAnswer, sheetRecords, recordsUpTo}
-use Rattle.rules.specs.SheetLaws.{Whole, taken-whole, taken-length, records-sixteens}
+use Rattle.rules.specs.SheetLaws.{taken-whole, taken-length, records-sixteens}
 use Rattle.words.specs.Say.{linesText}
 use Rattle.words.specs.Tell.{plainOf}
 use Rattle.words.specs.Sheets.{trailerOf, sheetOf, answerText, textMost, sheetText}
