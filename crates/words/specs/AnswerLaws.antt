@@ -218,7 +218,7 @@ line-no-sheet xs e =
     let newline : getD b (trailerAt b + 7) 0 ≡ 10 = ap (λ (k : ℕ). getD b k 0) last ∙ getD-append-seam xs 10 [] 0 in
     omega (arith, mark, newline)
 
--- so the three answers never look alike
+-- so neither line is ever taken for a sheet
 pub fault-no-sheet : (line : ℕ) (f : Fault) → sheetAnswer (faultLine line f) ≡ SheetAnswer.Taken → ⊥
 fault-no-sheet line f e =
     line-no-sheet ((108 ∷ 105 ∷ 110 ∷ 101 ∷ 32 ∷ []) ++ decimalOf line ++ (58 ∷ 32 ∷ []) ++ phraseOf f) e
