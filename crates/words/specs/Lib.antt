@@ -12,3 +12,7 @@ pub mod Tell
 pub mod TextLaws
 pub mod SheetsLaws
 pub mod ReadLaws
+pub mod TripLaws
+pub mod KeptLaws
+pub mod AnswerLaws
+pub mod NumberLaws

@@ -33,7 +33,7 @@ module _ (node digits : ℕ) (bytes : List ℕ) (plain : eqb node rawNode ≡ fa
   firsts =
       ((((((((((tt, rw plain), rw plain), rw plain), rw plain), rw plain), rw plain), rw plain), rw plain), rw plain), rw plain)
 
-  digit-first : (d : ℕ) → d < 10 → scanNext (at Mode.Gap 0 node digits bytes) (48 + d) ≡ at Mode.Number d node digits bytes
+  pub digit-first : (d : ℕ) → d < 10 → scanNext (at Mode.Gap 0 node digits bytes) (48 + d) ≡ at Mode.Number d node digits bytes
   unfolding First
   digit-first d h = each-at First 10 firsts d h
 
@@ -47,7 +47,7 @@ module _ (node digits : ℕ) (bytes : List ℕ) (plain : eqb node rawNode ≡ fa
     mores =
         ((((((((((tt, rw room), rw room), rw room), rw room), rw room), rw room), rw room), rw room), rw room), rw room)
 
-    digit-more : (d : ℕ) → d < 10 → scanNext (at Mode.Number t node digits bytes) (48 + d) ≡ at Mode.Number (t * 10 + d) node digits bytes
+    pub digit-more : (d : ℕ) → d < 10 → scanNext (at Mode.Number t node digits bytes) (48 + d) ≡ at Mode.Number (t * 10 + d) node digits bytes
     unfolding More
     digit-more d h = each-at More 10 mores d h
 
@@ -116,14 +116,14 @@ abbrev pending : Token → ℕ → List ℕ → Scan
 pending (Token.Word w) node bytes = at Mode.Word w node 0 bytes
 pending (Token.Number n) node bytes = at Mode.Number n node 0 bytes
 
-most-of : (p q : Bool) (n : ℕ) → n ≤ cond p 255 (cond q 65535 4294967295) → n ≤ 4294967295
-most-of true q n h = omega arith
-most-of false true n h = omega arith
-most-of false false n h = h
+most-of : (p q : Bool) (n one two four : ℕ) → one ≤ four → two ≤ four → n ≤ cond p one (cond q two four) → n ≤ four
+most-of true q n one two four h k m = omega arith
+most-of false true n one two four h k m = omega arith
+most-of false false n one two four h k m = m
 
 -- no field holds more than four bytes do
-most-in : (width n : ℕ) → n ≤ mostIn width → n ≤ 4294967295
-most-in width n h = most-of (eqb width 1) (eqb width 2) n h
+pub most-in : (width n : ℕ) → n ≤ mostIn width → n ≤ 4294967295
+most-in width n h = most-of (eqb width 1) (eqb width 2) n (mostIn 1) (mostIn 2) (mostIn 4) (omega arith) (omega arith) h
 
 token-read : (t : Token) (node : ℕ) (bytes : List ℕ) → Fits node t → scanAll (at Mode.Gap 0 node 0 bytes) (tokenText t) ≡ pending t node bytes
 token-read (Token.Word w) node bytes f = f .text 0 bytes

@@ -12,11 +12,11 @@ use Rattle.rules.specs.RecordLaws.{Bytes16}
 use Rattle.rules.specs.Record.{longBytes}
 use Rattle.rules.specs.Sheet.{trailerAt, distanceOf, sheetAnswer, sheetRecords, recordAt, recordsUpTo}
 use Rattle.rules.specs.SheetLaws.{Whole, taken-whole, taken-length, records-sixteens}
-use Rattle.words.specs.Scan.{textRead}
+use Rattle.words.specs.Scan.{blank, Read, textRead}
 use Rattle.words.specs.Say.{recordText, linesText}
 use Rattle.words.specs.Tell.{plainUpTo, plainOf}
 use Rattle.words.specs.Sheets.{joined, sheetOf}
-use Rattle.words.specs.TextLaws.{Records, text-read}
+use Rattle.words.specs.TextLaws.{Records, going, text-read}
 
 -- ---- a part in records
 
@@ -32,7 +32,7 @@ joined-records part (suc n) =
     let more : 16 * suc n ≡ 16 * n + 16 = omega arith in
     rw (joined-append (recordsUpTo part n) (recordAt part n ∷ []), joined-records part n, append-nil (recordAt part n), more, take-add (16 * n) 16 part)
 
-records-count : (part : List ℕ) (n : ℕ) → length (recordsUpTo part n) ≡ n
+pub records-count : (part : List ℕ) (n : ℕ) → length (recordsUpTo part n) ≡ n
 unfolding recordsUpTo
 records-count part zero = refl
 records-count part (suc n) = rw (length-append (recordsUpTo part n), records-count part n) (omega arith)
@@ -42,7 +42,7 @@ records-append [] b r w = (w, tt)
 records-append (x ∷ xs) b r w = (r .0, records-append xs b (r .1) w)
 
 -- of bytes, each record is sixteen bytes
-records-are :
+pub records-are :
     (part : List ℕ) → ((i : ℕ) → getD part i 0 < 256)
     → (n : ℕ) → 16 * n ≤ length part → Records (recordsUpTo part n)
 unfolding recordsUpTo
@@ -56,14 +56,20 @@ records-are part byte (suc n) l =
 
 -- ---- "any sheet's records survive the trip to words and back"
 
-pub part-survives :
+-- the reader comes to the end of it, and has the records
+pub part-read :
     (part : List ℕ) → ((i : ℕ) → getD part i 0 < 256) → length part % 16 ≡ 0 → length part ≤ 65520
-    → textRead (linesText (recordsUpTo part (length part / 16))) .records ≡ part
-part-survives part byte whole short =
+    → textRead (linesText (recordsUpTo part (length part / 16))) ≡ going (length part / 16 + 1) (length part / 16) 0 blank part
+part-read part byte whole short =
     let n = length part / 16 in
     let all : 16 * (length part / 16) ≡ length part = omega arith in
     let room : length (recordsUpTo part n) ≤ 4095 = rw (records-count part n) (omega arith) in
-    rw (text-read (recordsUpTo part n) (records-are part byte n (omega arith)) room, joined-records part n, all, take-length part)
+    rw (text-read (recordsUpTo part n) (records-are part byte n (omega arith)) room, joined-records part n, all, take-length part, records-count part n)
+
+pub part-survives :
+    (part : List ℕ) → ((i : ℕ) → getD part i 0 < 256) → length part % 16 ≡ 0 → length part ≤ 65520
+    → textRead (linesText (recordsUpTo part (length part / 16))) .records ≡ part
+part-survives part byte whole short = ap (λ (t : Read). t .records) (part-read part byte whole short)
 
 -- bytes are bytes in any part of them
 take-bytes : (k : ℕ) (l : List ℕ) → ((i : ℕ) → getD l i 0 < 256) → (i : ℕ) → getD (take k l) i 0 < 256
@@ -75,7 +81,7 @@ take-bytes (suc k) (x ∷ l) h (suc i) = take-bytes k l (λ j. h (suc j)) i
 drop-bytes : (k : ℕ) (l : List ℕ) → ((i : ℕ) → getD l i 0 < 256) → (i : ℕ) → getD (drop k l) i 0 < 256
 drop-bytes k l h i = rw (getD-drop k l i 0) (h (k + i))
 
-sheet-bytes : (a : SheetAnswer) (b : List ℕ) → sheetAnswer b ≡ a → ((i : ℕ) → getD b i 0 < 256) → (i : ℕ) → getD (sheetRecords b) i 0 < 256
+pub sheet-bytes : (a : SheetAnswer) (b : List ℕ) → sheetAnswer b ≡ a → ((i : ℕ) → getD b i 0 < 256) → (i : ℕ) → getD (sheetRecords b) i 0 < 256
 unfolding sheetRecords
 sheet-bytes SheetAnswer.Taken b e h i = rw e (take-bytes (distanceOf b) (drop (trailerAt b - distanceOf b) b) (drop-bytes (trailerAt b - distanceOf b) b h) i)
 sheet-bytes SheetAnswer.TooLong b e h i = rw e (omega arith)
@@ -83,7 +89,7 @@ sheet-bytes SheetAnswer.TooShort b e h i = rw e (omega arith)
 sheet-bytes SheetAnswer.BadMark b e h i = rw e (omega arith)
 sheet-bytes SheetAnswer.BadDistance b e h i = rw e (omega arith)
 
-sheet-most : (a : SheetAnswer) (b : List ℕ) → sheetAnswer b ≡ a → length (sheetRecords b) ≤ 65520
+pub sheet-most : (a : SheetAnswer) (b : List ℕ) → sheetAnswer b ≡ a → length (sheetRecords b) ≤ 65520
 unfolding sheetRecords
 sheet-most SheetAnswer.Taken b e =
     let w : Whole b = taken-whole b e in
@@ -147,7 +153,7 @@ unfolding linesText
 lines-more [] b = refl
 lines-more (c ∷ bs) b = rw (lines-more bs b, ← append-assoc (recordText c) (10 ∷ linesText bs) (recordText b ++ (10 ∷ [])))
 
-plain-lines : (part : List ℕ) (n : ℕ) → plainUpTo part n ≡ linesText (recordsUpTo part n)
+pub plain-lines : (part : List ℕ) (n : ℕ) → plainUpTo part n ≡ linesText (recordsUpTo part n)
 unfolding plainUpTo recordsUpTo linesText
 plain-lines part zero = refl
 plain-lines part (suc n) = rw (plain-lines part n, lines-more (recordsUpTo part n) (recordAt part n))

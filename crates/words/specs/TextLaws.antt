@@ -232,6 +232,14 @@ pub text-read :
 unfolding textRead readNext readerNext givesRecord given
 text-read bs w room = rw (lines-read bs 0 0 [] w (omega arith) (omega arith), zero-add (length bs), lt-ltb (length bs) 1000000 (omega arith), append-nil (joined bs))
 
+-- how long the text is: each line has its newline
+pub lines-length : (bs : List (List ℕ)) → Records bs → length (linesText bs) ≤ 109 * length bs
+unfolding linesText
+lines-length [] w = omega arith
+lines-length (b ∷ bs) w =
+    let short : length (recordText b) ≤ 108 = record-length b (w .0 .sixteen) in
+    rw (length-append (recordText b) (10 ∷ linesText bs)) (omega (arith, lines-length bs (w .1)))
+
 -- ---- one word or number, or one byte in hex, more
 
 pub rest-more : (ts : List Token) (t : Token) → restText (ts ++ (t ∷ [])) ≡ restText ts ++ (32 ∷ tokenText t)
