@@ -59,3 +59,7 @@ pub mod Counted
 pub mod Swept
 pub mod OrphansGone
 pub mod DemandThree
+-- An orphan's figures are undone: the width of an object at rest along a run, what every step does to it, and the theorems.
+pub mod Rests
+pub mod RestSteps
+pub mod Undone

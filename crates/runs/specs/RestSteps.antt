@@ -1,0 +1,269 @@
+-- What each step does to the width that stands of an object: only a commit changes it, and then the object is free and keeps its value.
+-- The idea: by the records that a step leaves, then by its store, then through the turns of a sweep or a crash. Assumes nothing.
+use Prim.Native.Nat.{ℕ, zero, suc, _+_, _*_, _/_, _%_, _≤_, _<_}
+use native.Mathlib.Omega.{arith}
+use mathlib.Core.Path.{_≡_, refl, subst}
+use mathlib.Core.Logic.{inl, ⊎-elim}
+use mathlib.Core.Bool.{Bool, false}
+use mathlib.Core.List.{List}
+use lib.ListN.{getD}
+use Rattle.rules.specs.declared.tables.Object.{Object}
+use Rattle.rules.specs.declared.answers.Check.{Check}
+use Rattle.rules.specs.declared.answers.Trip.{Trip}
+use Rattle.rules.specs.LoopsLaws.{either}
+use Rattle.rules.specs.Tables.{pastObject, objectAt, bankAt, objectSite, slotOf}
+use Rattle.rules.specs.Ranges.{inRange}
+use Rattle.rules.specs.RangesLaws.{cond-keeps, placed-places, placed-slots}
+use Rattle.rules.specs.Answers.{isAccepted, firstOf, settleOf}
+use Rattle.rules.specs.Parts.{nextClock, freed, restored, largestQuiesce, toldObjects, toldOf}
+use Rattle.rules.specs.Stations.{tickOf, sweepOf, crashOf, recoverOf, isSwept, sweptSlot, crashedSlot}
+use Rattle.rules.specs.Passages.{beginOf, abortOf, retireOf}
+use Rattle.rules.specs.Rounds.{refreshOf, terminateOf, prepareOf, openOf, askOf, closeOf, tellOf, closed, roundTold}
+use Rattle.rules.specs.Calls.{mailClock, mailSlot, calledObject, called, invokeOf, emptyOf, deliverCallOf, deliverPhaseOneOf, deliverPhaseTwoOf, deliverAnswerOf, deliverBodyOf, dropOf}
+use Rattle.rules.specs.Machine.{lookOf, placesOf, seenOf, decideOf, stored, headOf, slotPlaces, sweepTurn, crashTurn, turnOf, turnsUpTo, turnCount, stepInRangeOf, stepOf}
+use Rattle.rules.specs.StoredLaws.{Sized, Placed}
+use Rattle.runs.specs.Types.{Kind, Call, Told, Body, Tables, Step, Outcome, Places, Seen}
+use Rattle.runs.specs.Put.{same-or-other}
+use Rattle.runs.specs.Banks.{seen-object, object-after-stored, object-after-stored-other, each-at}
+use Rattle.runs.specs.Steps.{turn-count-most}
+use Rattle.runs.specs.Sizes.{sized-head, sized-turn}
+use Rattle.runs.specs.Ledgers.{seenAt}
+use Rattle.runs.specs.Rests.{isPrepare, tellsPrepare, carriesCommit, commits, Stands, Turned, stands-after-turned, standing-after-call, stands-after-freed, standing-after-restored, unheld-after-restored, set-at}
+
+-- ---- the records that a step leaves
+
+-- of each of the four objects that a step looks at
+abbrev AllStand : Bool → List Object → List Object → Type 0
+AllStand commit os left = (i : ℕ) → i < 4 → Stands commit (getD os i pastObject) (getD left i pastObject)
+
+-- objects that stay
+same-stand : (commit : Bool) (os left : List Object) → left ≡ os → AllStand commit os left
+same-stand commit os left e i l = inl (rw e)
+
+-- a refusal keeps what was seen
+settled-stand :
+    (commit : Bool) (cs : List Check) (v : ℕ) (seen left : Seen) → AllStand commit (seen .objects) (left .objects)
+    → AllStand commit (seen .objects) (settleOf (record { answer = firstOf cs v; left = left }) seen .left .objects)
+settled-stand commit cs v seen left h =
+    cond-keeps
+    (λ (x : Seen). AllStand commit (seen .objects) (x .objects))
+    (isAccepted (firstOf cs v))
+    left
+    seen
+    h
+    (same-stand commit (seen .objects) (seen .objects) refl)
+
+-- a step that leaves the objects
+idle-stand :
+    (cs : List Check) (v : ℕ) (seen left : Seen) → left .objects ≡ seen .objects
+    → AllStand false (seen .objects) (settleOf (record { answer = firstOf cs v; left = left }) seen .left .objects)
+idle-stand cs v seen left e = settled-stand false cs v seen left (same-stand false (seen .objects) (left .objects) e)
+
+-- a delivered call saves the value before, once
+called-stand : (c : Call) (clock : ℕ) (seen : Seen) → AllStand false (seen .objects) (called c clock seen .objects)
+called-stand c clock seen i l =
+    set-at
+    (λ j o. Stands false (getD (seen .objects) j pastObject) o)
+    (seen .objects)
+    (c .object % 4)
+    i
+    _
+    pastObject
+    (inl refl)
+    (inl (standing-after-call (mailSlot seen) c (calledObject c seen)))
+
+-- phase 2 frees under a prepare alone
+told-stand : (told : Told) (p : ℕ) (os : List Object) → AllStand (tellsPrepare told) os (toldObjects told p os)
+told-stand (Told.Refresh q) p os i l = inl refl
+told-stand (Told.Terminate m) p os i l = inl refl
+told-stand Told.Prepare p os i l =
+    rw (each-at (freed p) os i l) (stands-after-freed p (getD os i pastObject))
+
+-- what a round of this kind tells is a commit where the kind is prepare
+told-commits : (kind : Kind) (m : ℕ) → tellsPrepare (toldOf kind m) ≡ isPrepare kind
+told-commits Kind.None m = refl
+told-commits (Kind.Refresh q r) m = refl
+told-commits Kind.Terminate m = refl
+told-commits Kind.Prepare m = refl
+
+-- close does it where the home visit is there
+closed-stand :
+    (told : Told) (p clock : ℕ) (seen : Seen) → AllStand (tellsPrepare told) (seen .objects) (closed told p clock seen .objects)
+closed-stand told p clock seen =
+    cond-keeps
+    (AllStand (tellsPrepare told) (seen .objects))
+    (seen .visit .there)
+    _
+    (seen .objects)
+    (told-stand told p (seen .objects))
+    (same-stand (tellsPrepare told) (seen .objects) (seen .objects) refl)
+
+close-stand : (h : ℕ) (seen : Seen) → AllStand (isPrepare (seen .passage .round .kind)) (seen .objects) (closeOf h seen .left .objects)
+unfolding closeOf
+close-stand h seen =
+    settled-stand
+    (isPrepare (seen .passage .round .kind))
+    _
+    _
+    seen
+    _
+    (subst
+    (λ (b : Bool). AllStand b (seen .objects) (closed (roundTold (seen .passage .round)) (slotOf h) (nextClock (seen .site)) seen .objects))
+    (told-commits (seen .passage .round .kind) (largestQuiesce (seen .passage .round)))
+    (closed-stand (roundTold (seen .passage .round)) (slotOf h) (nextClock (seen .site)) seen))
+
+deliver-stand :
+    (body : Body) (m : ℕ) (seen : Seen) → AllStand (carriesCommit body) (seen .objects) (deliverBodyOf body m seen .left .objects)
+unfolding deliverBodyOf emptyOf deliverCallOf deliverPhaseOneOf deliverPhaseTwoOf deliverAnswerOf
+deliver-stand Body.Empty m seen = idle-stand _ _ seen seen refl
+deliver-stand (Body.Call c) m seen = settled-stand false _ _ seen _ (called-stand c (mailClock seen) seen)
+deliver-stand (Body.PhaseOne n asked) m seen = idle-stand _ _ seen _ refl
+deliver-stand (Body.PhaseTwo n told) m seen =
+    settled-stand (tellsPrepare told) _ _ seen _ (told-stand told (mailSlot seen) (seen .objects))
+deliver-stand (Body.Answer n r q) m seen = idle-stand _ _ seen _ refl
+
+decided-stand :
+    (step : Step) (place : ℕ) (rest : Bool) (seen : Seen)
+    → AllStand (commits step seen) (seen .objects) (decideOf step place rest seen .left .objects)
+unfolding decideOf tickOf sweepOf crashOf recoverOf beginOf abortOf retireOf refreshOf terminateOf prepareOf openOf askOf tellOf invokeOf dropOf
+decided-stand (Step.Tick site n) place rest seen = idle-stand _ _ seen _ refl
+decided-stand (Step.Begin home slot q r) place rest seen = idle-stand _ _ seen _ refl
+decided-stand (Step.Invoke h site write object value) place rest seen = idle-stand _ _ seen _ refl
+decided-stand (Step.Refresh h q r) place rest seen = idle-stand _ _ seen _ refl
+decided-stand (Step.Terminate h) place rest seen = idle-stand _ _ seen _ refl
+decided-stand (Step.Prepare h) place rest seen = idle-stand _ _ seen _ refl
+decided-stand (Step.Ask h site) place rest seen = idle-stand _ _ seen _ refl
+decided-stand (Step.Close h) place rest seen = close-stand h seen
+decided-stand (Step.Tell h site) place rest seen = idle-stand _ _ seen _ refl
+decided-stand (Step.Abort h) place rest seen = idle-stand _ _ seen _ refl
+decided-stand (Step.Deliver m) place rest seen = deliver-stand (seen .message .body) m seen
+decided-stand (Step.Drop m) place rest seen = idle-stand _ _ seen _ refl
+decided-stand (Step.Sweep site) place rest seen = idle-stand _ _ seen _ refl
+decided-stand (Step.Crash site) place rest seen = idle-stand _ _ seen _ refl
+decided-stand (Step.Recover site) place rest seen = idle-stand _ _ seen _ refl
+decided-stand (Step.Retire h) place rest seen = idle-stand _ _ seen _ refl
+
+-- ---- the store
+
+-- what holds of the four objects looked at, old and new, and of an object that stays, holds of every object
+module _ (P : Object → Object → Type 0) (same : (o : Object) → P o o) (t : Tables) (at : Places) (left : Seen) (z : Sized t) (h : Placed at) where
+  stored-all :
+      ((i : ℕ) → i < 4 → P (getD (bankAt t (at .bank)) i pastObject) (getD (left .objects) i pastObject)) → (k : ℕ)
+      → P (objectAt t k) (objectAt (stored t at left) k)
+  stored-all four k =
+      ⊎-elim
+      (λ b. rw (object-after-stored t at left z h k b) (inside b))
+      (λ n. rw (object-after-stored-other t at left z h k n) (same (objectAt t k)))
+      (same-or-other (objectSite k) (at .bank))
+    where
+      inside : objectSite k ≡ at .bank → P (objectAt t k) (getD (left .objects) (k % 4) pastObject)
+      inside b =
+          let q : k / 4 ≡ at .bank = b in
+          let y : 4 * at .bank + k % 4 ≡ k = omega arith in
+          subst
+          (λ (j : ℕ). P (objectAt t j) (getD (left .objects) (k % 4) pastObject))
+          y
+          (subst
+          (λ (o : Object). P o (getD (left .objects) (k % 4) pastObject))
+          (seen-object t (at .bank) (k % 4) (omega arith))
+          (four (k % 4) (omega arith)))
+
+head-stands :
+    (t : Tables) (step : Step) → Sized t → (k : ℕ)
+    → Stands (commits step (seenAt t step)) (objectAt t k) (objectAt (headOf t step .tables) k)
+unfolding headOf
+head-stands t step z =
+    stored-all
+    (Stands (commits step (seenAt t step)))
+    (λ o. inl refl)
+    t
+    (placesOf t (lookOf step))
+    _
+    z
+    (placed-places t (lookOf step))
+    (decided-stand step _ _ (seenAt t step))
+
+-- ---- the turns of a sweep and of a crash
+
+swept-turned :
+    (site slot : ℕ) (seen : Seen) (i : ℕ) → i < 4
+    → Turned (getD (seen .objects) i pastObject) (getD (sweptSlot site slot seen .objects) i pastObject)
+unfolding sweptSlot
+swept-turned site slot seen i l =
+    cond-keeps
+    (λ (x : Seen). Turned (getD (seen .objects) i pastObject) (getD (x .objects) i pastObject))
+    (isSwept seen)
+    _
+    seen
+    (rw
+    (each-at (restored slot) (seen .objects) i l)
+    (standing-after-restored slot (getD (seen .objects) i pastObject), unheld-after-restored slot (getD (seen .objects) i pastObject)))
+    (refl, λ u. refl)
+
+turn-turned :
+    (trip : Trip) (slot : ℕ) (o : Outcome) → slot < 16 → Sized (o .tables) → (k : ℕ)
+    → Turned (objectAt (o .tables) k) (objectAt (turnOf trip slot o .tables) k)
+unfolding sweepTurn crashTurn crashedSlot
+turn-turned Trip.Nowhere slot o l z k = (refl, λ u. refl)
+turn-turned (Trip.Sweep site) slot o l z k =
+    stored-all
+    Turned
+    (λ x. (refl, λ u. refl))
+    (o .tables)
+    (slotPlaces site slot)
+    _
+    z
+    (placed-slots site slot l)
+    (swept-turned site slot (seenOf (o .tables) (slotPlaces site slot)))
+    k
+turn-turned (Trip.Crash site) slot o l z k =
+    stored-all
+    Turned
+    (λ x. (refl, λ u. refl))
+    (o .tables)
+    (slotPlaces site slot)
+    _
+    z
+    (placed-slots site slot l)
+    (λ i j. (refl, λ u. refl))
+    k
+
+-- ---- so through all turns, and for every step
+
+module _ (commit : Bool) (t : Tables) (trip : Trip) (o : Outcome) (z : Sized (o .tables))
+    (own : (k : ℕ) → Stands commit (objectAt t k) (objectAt (o .tables) k)) where
+  turns-stand :
+      (n : ℕ) → n ≤ 16
+      → Sized (turnsUpTo trip o n .tables)
+      × ((k : ℕ) → Stands commit (objectAt t k) (objectAt (turnsUpTo trip o n .tables) k))
+  unfolding turnsUpTo
+  turns-stand zero l = (z, own)
+  turns-stand (suc n) l =
+      let r = turns-stand n (omega arith) in (
+        sized-turn trip n (turnsUpTo trip o n) (r .0),
+        λ k. stands-after-turned commit (objectAt t k) (objectAt (turnsUpTo trip o n .tables) k) _ (r .1 k) (turn-turned trip n (turnsUpTo trip o n) l (r .0) k),
+      )
+
+-- whatever the step, accepted or not
+pub step-stands :
+    (t : Tables) (step : Step) → Sized t → (k : ℕ)
+    → Stands (commits step (seenAt t step)) (objectAt t k) (objectAt (stepOf t step .tables) k)
+unfolding stepOf stepInRangeOf
+step-stands t step z k =
+    ⊎-elim
+    (λ q.
+    rw
+    q
+    (turns-stand
+    (commits step (seenAt t step))
+    t
+    (lookOf step .trip)
+    (headOf t step)
+    (sized-head t step z)
+    (head-stands t step z)
+    (turnCount (lookOf step .trip) (headOf t step .answer))
+    (turn-count-most (lookOf step .trip) _)
+    .1
+    k))
+    (λ q. rw q (inl refl))
+    (either (inRange t))
