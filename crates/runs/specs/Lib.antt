@@ -59,3 +59,5 @@ pub mod Counted
 pub mod Swept
 pub mod OrphansGone
 pub mod DemandThree
+-- What people with a handle or a station's promise rely on.
+pub mod Handles
