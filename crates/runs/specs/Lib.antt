@@ -61,3 +61,4 @@ pub mod OrphansGone
 pub mod DemandThree
 -- What people with a handle or a station's promise rely on.
 pub mod Handles
+pub mod Promised
