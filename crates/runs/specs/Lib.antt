@@ -62,3 +62,4 @@ pub mod DemandThree
 -- What people with a handle or a station's promise rely on.
 pub mod Handles
 pub mod Promised
+pub mod HeldFast

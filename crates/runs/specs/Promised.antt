@@ -193,7 +193,7 @@ crashed-there site n seen e =
 -- ---- steps, for the visit of one slot at one site
 
 -- what holds of the visit that a store leaves in its own place, and of every other, holds of all
-stored-has :
+pub stored-has :
     (P : Visit → Type 0) (t : Tables) (at : Places) (left : Seen) → Sized t → Placed at → (s p : ℕ) → p < 16
     → (s ≡ at .site → p ≡ at .slot → P (left .visit))
     → P (visitAt t s p)
