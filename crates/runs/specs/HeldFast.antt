@@ -17,7 +17,7 @@ use Rattle.rules.specs.LoopsLaws.{either}
 use Rattle.rules.specs.Tables.{start, pastObject, siteAt, objectAt, passageAt, visitAt, bankAt, objectSite, slotOf}
 use Rattle.rules.specs.Ranges.{inRange}
 use Rattle.rules.specs.Answers.{isAccepted, firstOf, settleOf}
-use Rattle.rules.specs.Parts.{nextClock, isHeldBy, taken, operated, unheld, eachOf, toldVisit, toldObjects}
+use Rattle.rules.specs.Parts.{nextClock, isHeldBy, taken, operated, unheld, freed, restored, eachOf, toldVisit, toldObjects}
 use Rattle.rules.specs.Stations.{tickOf, sweepOf, isSwept, sweptSlot, crashOf, crashedSlot, recoverOf}
 use Rattle.rules.specs.Passages.{beginOf, abortOf, retireOf}
 use Rattle.rules.specs.Rounds.{roundTold, closed, openOf, refreshOf, terminateOf, prepareOf, askOf, closeOf, tellOf}
@@ -72,14 +72,14 @@ module _ (t : Tables) (at : Places) where
   settled-fast cs v left f =
       cond-keeps (Fast t at) (isAccepted (firstOf cs v)) left (seenOf t at) f (same-fast (seenOf t at) refl)
 
-  -- the visit goes, and lets go of what it held at its site
+  -- the visit goes, and lets go of what it held at its site; who else holds an object there keeps it
   let-go-fast :
-      (value : Object → ℕ) (left : Seen)
-      → left .objects ≡ eachOf (λ o. cond (isHeldBy (at .slot) (o .holder)) (unheld (value o)) o) (bankAt t (at .bank))
+      (f : Object → Object) (left : Seen) → ((o : Object) (q : ℕ) → o .holder ≡ Holder.Slot q → q ≢ at .slot → f o .holder ≡ Holder.Slot q)
+      → left .objects ≡ eachOf f (bankAt t (at .bank))
       → at .bank ≡ at .site
       → left .visit .there ≡ false
       → Fast t at left
-  let-go-fast value left o b gone =
+  let-go-fast f left law o b gone =
       record {
         holds =
             λ i q l e.
@@ -88,10 +88,8 @@ module _ (t : Tables) (at : Places) where
             (λ n.
             inl
             (ap (λ (os : List Object). getD os i pastObject .holder) o
-            ∙ ap
-            (λ (x : Object). x .holder)
-            (each-at (λ o. cond (isHeldBy (at .slot) (o .holder)) (unheld (value o)) o) (bankAt t (at .bank)) i l)
-            ∙ let-go-other (at .slot) q (value (getD (bankAt t (at .bank)) i pastObject)) (getD (bankAt t (at .bank)) i pastObject) e n))
+            ∙ ap (λ (x : Object). x .holder) (each-at f (bankAt t (at .bank)) i l)
+            ∙ law (getD (bankAt t (at .bank)) i pastObject) q e n))
             (same-or-other q (at .slot));
       }
 
@@ -103,7 +101,7 @@ module _ (t : Tables) (at : Places) where
       → Fast t at left
   told-fast (Told.Refresh q) left v o b = same-fast left o
   told-fast (Told.Terminate m) left v o b = same-fast left o
-  told-fast Told.Prepare left v o b = let-go-fast (λ x. x .value) left o b (ap (λ (x : Visit). x .there) v)
+  told-fast Told.Prepare left v o b = let-go-fast (freed (at .slot)) left (λ x q. let-go-other (at .slot) q _ x) o b (ap (λ (x : Visit). x .there) v)
 
   -- a close does it where the home visit is there
   closed-fast : (told : Told) (clock : ℕ) → at .bank ≡ at .site → Fast t at (closed told (at .slot) clock (seenOf t at))
@@ -149,7 +147,7 @@ module _ (t : Tables) (at : Places) where
   unfolding sweptSlot
   swept-fast site b =
       ⊎-elim
-      (λ e. rw e (let-go-fast (λ x. x .before) _ refl b refl))
+      (λ e. rw e (let-go-fast (restored (at .slot)) _ (λ x q. let-go-other (at .slot) q _ x) refl b refl))
       (λ e. rw e (same-fast (seenOf t at) refl))
       (either (isSwept (seenOf t at)))
 

@@ -63,3 +63,4 @@ pub mod DemandThree
 pub mod Handles
 pub mod Promised
 pub mod HeldFast
+pub mod Standing

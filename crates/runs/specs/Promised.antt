@@ -129,7 +129,7 @@ delivered-there (Body.PhaseTwo n Told.Prepare) m seen e f = absurd (true≢false
 delivered-there (Body.Answer n r q) m seen e f = settled-firm Trip.Nowhere _ _ seen _ e e
 
 -- at its own slot and site, a step that is no word
-word-here : (a b : ℕ) (c : Bool) → (eqb a a && eqb b b && c) ≡ false → c ≡ false
+pub word-here : (a b : ℕ) (c : Bool) → (eqb a a && eqb b b && c) ≡ false → c ≡ false
 word-here a b c f = rw (eq-eqb a a refl, eq-eqb b b refl) at f
 
 decided-firm :
@@ -172,7 +172,7 @@ decided-firm t (Step.Retire h) place rest k f = settled-firm Trip.Nowhere _ _ _ 
 -- ---- what one slot of a sweep or of a crash leaves of its visit
 
 -- a sweep leaves a prepared visit as it is
-prepared-not-swept : (site n : ℕ) (seen : Seen) → seen .visit .prepared ≡ true → sweptSlot site n seen .visit ≡ seen .visit
+pub prepared-not-swept : (site n : ℕ) (seen : Seen) → seen .visit .prepared ≡ true → sweptSlot site n seen .visit ≡ seen .visit
 unfolding sweptSlot
 prepared-not-swept site n seen e = rw (unswept (seen .visit .there))
   where
