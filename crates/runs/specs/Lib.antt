@@ -63,3 +63,8 @@ pub mod DemandThree
 pub mod Rests
 pub mod RestSteps
 pub mod Undone
+-- What people with a handle or a station's promise rely on.
+pub mod Handles
+pub mod Promised
+pub mod HeldFast
+pub mod Standing

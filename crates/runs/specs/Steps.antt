@@ -5,7 +5,7 @@ use native.Mathlib.Omega.{arith}
 use mathlib.Core.Path.{_≡_, refl, sym, ap, _∙_}
 use mathlib.Core.Logic.{⊎-elim, _⊎_}
 use mathlib.Core.Bool.{Bool, true, false, cond, false≢true}
-use mathlib.Core.List.{List, [], _∷_}
+use mathlib.Core.List.{List, [], _∷_, _++_}
 use Rattle.rules.specs.LoopsLaws.{either}
 use Rattle.rules.specs.Answers.{isAccepted}
 use Rattle.rules.specs.Ranges.{inRange}
@@ -127,6 +127,13 @@ module _ {G : Type 0} (head : Tables → Step → G → G) (turn : Trip → ℕ 
   run-keeps t [] g k = k
   run-keeps t (s ∷ ss) g k =
       run-keeps (stepOf t s .tables) ss (ghostStep head turn t s g) (step-keeps t s g k)
+
+-- ---- a run is its first part and then the rest
+
+pub run-on : (t : Tables) (before after : List Step) → runOf t (before ++ after) ≡ runOf (runOf t before) after
+unfolding runOf
+run-on t [] after = refl
+run-on t (s ∷ ss) after = run-on (stepOf t s .tables) ss after
 
 -- ---- a run of records is a run of the steps that they stand for
 

@@ -15,6 +15,7 @@ use Rattle.rules.specs.Machine.{stepOf}
 use Rattle.rules.specs.RefusedLaws.{refused-leaves}
 use Rattle.rules.specs.Runs.{runOf}
 use Rattle.runs.specs.Types.{Tables, Step}
+use Rattle.runs.specs.Steps.{run-on}
 use Rattle.runs.specs.Sizes.{sized-start, sized-step, sized-run}
 use Rattle.runs.specs.Ledgers.{seenAt, repeat-has}
 use Rattle.runs.specs.Rests.{isAtRest, restAfter, restFrom, restOf, HeldThrough, commits, standing, standing-unheld, Stands}
@@ -69,15 +70,10 @@ value-is-rest ss k e = rw (rest-stands ss k, e)
 
 -- ---- one more step
 
-run-after-run : (t : Tables) (ss later : List Step) → runOf t (ss ++ later) ≡ runOf (runOf t ss) later
-unfolding runOf
-run-after-run t [] later = refl
-run-after-run t (s ∷ ss) later = run-after-run (stepOf t s .tables) ss later
-
 -- the step leaves this width at rest
 rest-after-step : (ss : List Step) (s : Step) (k : ℕ) → restOf (ss ++ (s ∷ [])) k ≡ standing (objectAt (stepOf (runOf start ss) s .tables) k)
 unfolding runOf
-rest-after-step ss s k = rest-stands (ss ++ (s ∷ [])) k ∙ ap (λ (t : Tables). standing (objectAt t k)) (run-after-run start ss (s ∷ []))
+rest-after-step ss s k = rest-stands (ss ++ (s ∷ [])) k ∙ ap (λ (t : Tables). standing (objectAt t k)) (run-on start ss (s ∷ []))
 
 -- what is known of a step that changes the width at rest of object k: it is accepted, it commits, and the new width is the value that stood written
 pub record Committed (ss : List Step) (s : Step) (k : ℕ) : Type 0 where
@@ -156,10 +152,10 @@ pub figures-undone :
     → isAtRest (stepOf (runOf (runOf start ss) later) (Step.Sweep site) .tables) k ≡ true
     → objectAt (stepOf (runOf (runOf start ss) later) (Step.Sweep site) .tables) k .value ≡ objectAt (runOf start ss) k .value
 figures-undone ss later site k free held swept =
-    ap (λ (t : Tables). objectAt (stepOf t (Step.Sweep site) .tables) k .value) (sym (run-after-run start ss later))
+    ap (λ (t : Tables). objectAt (stepOf t (Step.Sweep site) .tables) k .value) (sym (run-on start ss later))
     ∙ rest-after-sweep
     (ss ++ later)
     site
     k
-    (ap (λ (t : Tables). isAtRest (stepOf t (Step.Sweep site) .tables) k) (run-after-run start ss later) ∙ swept)
+    (ap (λ (t : Tables). isAtRest (stepOf t (Step.Sweep site) .tables) k) (run-on start ss later) ∙ swept)
     ∙ rest-is-last-free ss later k free held

@@ -1,0 +1,385 @@
+-- An old handle reaches nobody: a slot's generation counts the accepted retires of the slot, and nothing else moves it. Assumes nothing.
+use Prim.Native.Nat.{ℕ, zero, suc, _+_, _%_, _≤_, _<_}
+use native.Mathlib.Omega.{arith}
+use mathlib.Core.Path.{_≡_, refl, sym, ap, _∙_, subst}
+use mathlib.Core.Logic.{_≢_, ⊎-elim}
+use mathlib.Core.Bool.{Bool, true, false, cond, not, _&&_, _||_, false≢true}
+use mathlib.Core.List.{List, [], _∷_, _++_}
+use lib.Dec.{eqb, ltb}
+use borrow.Author.Tests.{eqb-true, eq-eqb, ne-eqb, ltb-false}
+use Rattle.rules.specs.declared.answers.Trip.{Trip}
+use Rattle.rules.specs.declared.answers.Check.{Check}
+use Rattle.rules.specs.Loops.{oneIf}
+use Rattle.rules.specs.LoopsLaws.{either, or-left, or-right, not-false}
+use Rattle.rules.specs.Tables.{start, passageAt, slotOf, generationOf, handleOf, freeSlot, pastPassage}
+use Rattle.rules.specs.Ranges.{inRange}
+use Rattle.rules.specs.Answers.{isAccepted, answerValue, firstOf, settleOf}
+use Rattle.rules.specs.AnswersLaws.{accepted-fine, accepted-value}
+use Rattle.rules.specs.Parts.{isFree, isActive, abortedPassage}
+use Rattle.rules.specs.Checks.{badSite, badTimes}
+use Rattle.rules.specs.Stations.{tickOf, sweepOf, isSwept, sweptSlot, crashOf, losesHome, crashedSlot, recoverOf}
+use Rattle.rules.specs.Passages.{beginOf, abortOf, retireOf}
+use Rattle.rules.specs.Rounds.{openOf, refreshOf, terminateOf, prepareOf, askOf, closeOf, tellOf}
+use Rattle.rules.specs.Calls.{atHome, invokeOf, emptyOf, deliverCallOf, deliverPhaseOneOf, deliverPhaseTwoOf, deliverAnswerOf, deliverBodyOf, dropOf}
+use Rattle.rules.specs.Machine.{lookOf, placesOf, seenOf, remains, decideOf, stored, headOf, slotPlaces, sweepTurn, crashTurn, turnOf, turnsUpTo, turnCount, stepInRangeOf, stepOf}
+use Rattle.rules.specs.StoredLaws.{Sized, Placed, passage-after-stored, passage-after-stored-other}
+use Rattle.rules.specs.RangesLaws.{placed-places, placed-slots}
+use Rattle.rules.specs.RefusedLaws.{refused-leaves}
+use Rattle.rules.specs.Runs.{Entry, runOf, entryOf, entriesOf, historyOf}
+use Rattle.runs.specs.Types.{Passage, Body, Tables, Step, Places, Seen, Outcome}
+use Rattle.runs.specs.Put.{same-or-other}
+use Rattle.runs.specs.Steps.{head-accepted, turn-count-most, run-on}
+use Rattle.runs.specs.Sizes.{sized-start, sized-run, sized-step, sized-head, sized-turn}
+use Rattle.runs.specs.Ledgers.{repeat-has}
+use Rattle.runs.specs.Orphans.{retires}
+
+-- ---- definitions
+
+-- the accepted retires of a slot in a list of accepted steps
+unfoldable pub retiresIn : ℕ → List Entry → ℕ
+retiresIn p [] = 0
+retiresIn p (e ∷ es) = oneIf (retires p (e .step)) + retiresIn p es
+
+-- the generation of a slot
+abbrev pub generationAt : Tables → ℕ → ℕ
+generationAt t p = passageAt t p .generation
+
+-- a generation after a step that is a retire of its slot, or is none: "255 is followed by 0"
+abbrev moved : Bool → ℕ → ℕ
+moved retire g = cond retire ((g + 1) % 256) g
+
+-- does the step name this handle?
+abbrev pub names : ℕ → Step → Bool
+names h (Step.Tick site n) = false
+names h (Step.Begin home slot q r) = false
+names h (Step.Invoke g site write object value) = eqb g h
+names h (Step.Refresh g q r) = eqb g h
+names h (Step.Terminate g) = eqb g h
+names h (Step.Prepare g) = eqb g h
+names h (Step.Ask g site) = eqb g h
+names h (Step.Close g) = eqb g h
+names h (Step.Tell g site) = eqb g h
+names h (Step.Abort g) = eqb g h
+names h (Step.Deliver m) = false
+names h (Step.Drop m) = false
+names h (Step.Sweep site) = false
+names h (Step.Crash site) = false
+names h (Step.Recover site) = false
+names h (Step.Retire g) = eqb g h
+
+-- ---- what a decision leaves of the generation
+
+-- of its own slot: one more for a retire, else as it was; and it is a retire of no other slot
+record Moves (slot : ℕ) (step : Step) (seen left : Seen) : Type 0 where
+  own : left .passage .generation ≡ moved (retires slot step) (seen .passage .generation)
+  other : (p : ℕ) → p ≢ slot → retires p step ≡ false
+
+-- a step that is no retire, and leaves the generation where it decides
+still :
+    (slot : ℕ) (step : Step) (cs : List Check) (v : ℕ) (seen left : Seen) → ((p : ℕ) → retires p step ≡ false)
+    → left .passage .generation ≡ seen .passage .generation
+    → Moves slot step seen (settleOf (record { answer = firstOf cs v; left = left }) seen .left)
+still slot step cs v seen left never e =
+    record { own = rw (never slot) (both (isAccepted (firstOf cs v))); other = λ p n. never p }
+  where
+    both : (b : Bool) → cond b left seen .passage .generation ≡ seen .passage .generation
+    both true = e
+    both false = refl
+
+-- at home a message may give the passage another status, and no other generation
+at-home-generation :
+    (b : Bool) (x y : Passage) (g : ℕ) → x .generation ≡ g → y .generation ≡ g → cond b x y .generation ≡ g
+at-home-generation true x y g d e = d
+at-home-generation false x y g d e = e
+
+delivered-moves : (slot : ℕ) (body : Body) (m : ℕ) (seen : Seen) → Moves slot (Step.Deliver m) seen (deliverBodyOf body m seen .left)
+unfolding deliverBodyOf emptyOf deliverCallOf deliverPhaseOneOf deliverPhaseTwoOf deliverAnswerOf
+delivered-moves slot Body.Empty m seen = still slot (Step.Deliver m) _ _ seen _ (λ p. refl) refl
+delivered-moves slot (Body.Call c) m seen = still slot (Step.Deliver m) _ _ seen _ (λ p. refl) refl
+delivered-moves slot (Body.PhaseOne n a) m seen =
+    still slot (Step.Deliver m) _ _ seen _ (λ p. refl) (at-home-generation (atHome seen) _ (seen .passage) _ refl refl)
+delivered-moves slot (Body.PhaseTwo n d) m seen =
+    still slot (Step.Deliver m) _ _ seen _ (λ p. refl) (at-home-generation (atHome seen) _ (seen .passage) _ refl refl)
+delivered-moves slot (Body.Answer n r q) m seen = still slot (Step.Deliver m) _ _ seen _ (λ p. refl) refl
+
+-- an accepted retire moves the generation of the slot that its handle names
+retire-moves :
+    (h : ℕ) (rest : Bool) (seen : Seen) → isAccepted (retireOf h rest seen .answer) ≡ true
+    → Moves (slotOf h) (Step.Retire h) seen (retireOf h rest seen .left)
+unfolding retireOf
+retire-moves h rest seen e =
+    record {
+      own = rw (e, eq-eqb (slotOf h) (slotOf h) refl);
+      other = λ p n. ne-eqb (slotOf h) p (λ q. n (sym q));
+    }
+
+decided-moves :
+    (t : Tables) (step : Step) (place : ℕ) (rest : Bool) (seen : Seen)
+    → isAccepted (decideOf step place rest seen .answer) ≡ true
+    → Moves (placesOf t (lookOf step) .slot) step seen (decideOf step place rest seen .left)
+unfolding placesOf decideOf tickOf sweepOf crashOf recoverOf beginOf abortOf refreshOf terminateOf prepareOf openOf askOf closeOf tellOf invokeOf dropOf
+decided-moves t (Step.Tick site n) place rest seen e = still _ (Step.Tick site n) _ _ seen _ (λ p. refl) refl
+decided-moves t (Step.Begin home slot q r) place rest seen e = still _ (Step.Begin home slot q r) _ _ seen _ (λ p. refl) refl
+decided-moves t (Step.Invoke h site write object value) place rest seen e = still _ (Step.Invoke h site write object value) _ _ seen _ (λ p. refl) refl
+decided-moves t (Step.Refresh h q r) place rest seen e = still _ (Step.Refresh h q r) _ _ seen _ (λ p. refl) refl
+decided-moves t (Step.Terminate h) place rest seen e = still _ (Step.Terminate h) _ _ seen _ (λ p. refl) refl
+decided-moves t (Step.Prepare h) place rest seen e = still _ (Step.Prepare h) _ _ seen _ (λ p. refl) refl
+decided-moves t (Step.Ask h site) place rest seen e = still _ (Step.Ask h site) _ _ seen _ (λ p. refl) refl
+decided-moves t (Step.Close h) place rest seen e = still _ (Step.Close h) _ _ seen _ (λ p. refl) refl
+decided-moves t (Step.Tell h site) place rest seen e = still _ (Step.Tell h site) _ _ seen _ (λ p. refl) refl
+decided-moves t (Step.Abort h) place rest seen e = still _ (Step.Abort h) _ _ seen _ (λ p. refl) refl
+decided-moves t (Step.Deliver m) place rest seen e = delivered-moves _ (seen .message .body) m seen
+decided-moves t (Step.Drop m) place rest seen e = still _ (Step.Drop m) _ _ seen _ (λ p. refl) refl
+decided-moves t (Step.Sweep site) place rest seen e = still _ (Step.Sweep site) _ _ seen _ (λ p. refl) refl
+decided-moves t (Step.Crash site) place rest seen e = still _ (Step.Crash site) _ _ seen _ (λ p. refl) refl
+decided-moves t (Step.Recover site) place rest seen e = still _ (Step.Recover site) _ _ seen _ (λ p. refl) refl
+decided-moves t (Step.Retire h) place rest seen e = retire-moves h rest seen e
+
+-- ---- steps
+
+-- what holds of the generation of a store's own slot, and of every other, holds of all
+stored-generation :
+    (t : Tables) (at : Places) (left : Seen) → Sized t → Placed at → (f : ℕ → ℕ → ℕ)
+    → left .passage .generation ≡ f (at .slot) (generationAt t (at .slot))
+    → ((p : ℕ) → p ≢ at .slot → generationAt t p ≡ f p (generationAt t p))
+    → (p : ℕ)
+    → generationAt (stored t at left) p ≡ f p (generationAt t p)
+stored-generation t at left z h f own other p =
+    ⊎-elim
+    (λ (e : p ≡ at .slot). rw e (ap (λ (x : Passage). x .generation) (passage-after-stored t at left z h) ∙ own))
+    (λ n. ap (λ (x : Passage). x .generation) (passage-after-stored-other t at left p n) ∙ other p n)
+    (same-or-other p (at .slot))
+
+head-generation :
+    (t : Tables) (step : Step) → Sized t → isAccepted (headOf t step .answer) ≡ true → (p : ℕ)
+    → generationAt (headOf t step .tables) p ≡ moved (retires p step) (generationAt t p)
+unfolding headOf
+head-generation t step z e =
+    let at : Places = placesOf t (lookOf step) in
+    let m = decided-moves t step (at .message) (remains t (at .slot)) (seenOf t at) e in
+    stored-generation t at _ z (placed-places t (lookOf step)) (λ p. moved (retires p step)) (m .own) (λ p n. rw (m .other p n))
+
+-- each slot of a sweep or a crash leaves the generation
+swept-generation : (site slot : ℕ) (seen : Seen) → sweptSlot site slot seen .passage .generation ≡ seen .passage .generation
+unfolding sweptSlot
+swept-generation site slot seen =
+    ⊎-elim
+    (λ e.
+    rw
+    e
+    (at-home-generation (isActive (seen .passage .status) && eqb (seen .passage .home) site) (abortedPassage (seen .passage)) (seen .passage) _ refl refl))
+    (λ e. rw e)
+    (either (isSwept seen))
+
+crashed-generation : (site slot : ℕ) (seen : Seen) → crashedSlot site slot seen .passage .generation ≡ seen .passage .generation
+unfolding crashedSlot
+crashed-generation site slot seen = at-home-generation (losesHome site (seen .passage)) _ (seen .passage) _ refl refl
+
+turn-generation :
+    (trip : Trip) (slot : ℕ) (o : Outcome) → slot < 16 → Sized (o .tables) → (p : ℕ)
+    → generationAt (turnOf trip slot o .tables) p ≡ generationAt (o .tables) p
+unfolding sweepTurn crashTurn
+turn-generation Trip.Nowhere slot o l z p = refl
+turn-generation (Trip.Sweep site) slot o l z p =
+    stored-generation (o .tables) (slotPlaces site slot) _ z (placed-slots site slot l) (λ p g. g) (swept-generation site slot _) (λ p n. refl) p
+turn-generation (Trip.Crash site) slot o l z p =
+    stored-generation (o .tables) (slotPlaces site slot) _ z (placed-slots site slot l) (λ p g. g) (crashed-generation site slot _) (λ p n. refl) p
+
+turns-generation :
+    (trip : Trip) (o : Outcome) (n : ℕ) → n ≤ 16 → Sized (o .tables)
+    → Sized (turnsUpTo trip o n .tables)
+    × ((p : ℕ) → generationAt (turnsUpTo trip o n .tables) p ≡ generationAt (o .tables) p)
+unfolding turnsUpTo
+turns-generation trip o zero l z = (z, λ p. refl)
+turns-generation trip o (suc n) l z =
+    let k = turns-generation trip o n (omega arith) z in (
+      sized-turn trip n (turnsUpTo trip o n) (k .0),
+      λ p. turn-generation trip n (turnsUpTo trip o n) l (k .0) p ∙ k .1 p,
+    )
+
+-- an accepted step moves the generation of a slot by one if it is a retire of that slot, and by nothing else
+pub generation-after-step :
+    (t : Tables) (step : Step) → Sized t → isAccepted (stepOf t step .answer) ≡ true → (p : ℕ)
+    → generationAt (stepOf t step .tables) p ≡ cond (retires p step) ((generationAt t p + 1) % 256) (generationAt t p)
+unfolding stepOf stepInRangeOf
+generation-after-step t step z e p =
+    ⊎-elim
+    (λ q.
+    rw
+    q
+    (turns-generation
+    (lookOf step .trip)
+    (headOf t step)
+    (turnCount (lookOf step .trip) (headOf t step .answer))
+    (turn-count-most (lookOf step .trip) _)
+    (sized-head t step z)
+    .1
+    p
+    ∙ head-generation t step z (head-accepted t step e) p))
+    (λ q. absurd (false≢true (rw q at e)))
+    (either (inRange t))
+
+-- ---- runs
+
+-- an accepted step has an entry, a refused one none
+counted-entry :
+    (t : Tables) (step : Step) (p : ℕ) (es : List Entry) (b : Bool) → isAccepted (stepOf t step .answer) ≡ b
+    → retiresIn p (entriesOf t step ++ es) ≡ retiresIn p (cond b (entryOf t step ∷ []) [] ++ es)
+counted-entry t step p es b e = ap (λ (x : Bool). retiresIn p (cond x (entryOf t step ∷ []) [] ++ es)) e
+
+-- what one step adds to the count
+generation-counted :
+    (t : Tables) (step : Step) (p : ℕ) (es : List Entry) → Sized t → generationAt t p < 256
+    → (generationAt (stepOf t step .tables) p < 256)
+    × ((generationAt (stepOf t step .tables) p + retiresIn p es) % 256 ≡ (generationAt t p + retiresIn p (entriesOf t step ++ es)) % 256)
+unfolding retiresIn
+generation-counted t step p es z l =
+    ⊎-elim
+    (λ e. rw (counted-entry t step p es true e, generation-after-step t step z e p) (counted (retires p step)))
+    (λ e. rw (counted-entry t step p es false e, refused-leaves t step e) (l, refl))
+    (either (isAccepted (stepOf t step .answer)))
+  where
+    counted :
+        (b : Bool)
+        → (cond b ((generationAt t p + 1) % 256) (generationAt t p) < 256)
+        × ((cond b ((generationAt t p + 1) % 256) (generationAt t p) + retiresIn p es) % 256 ≡ (generationAt t p + (oneIf b + retiresIn p es)) % 256)
+    counted true = (omega arith, omega arith)
+    counted false = (l, omega arith)
+
+generation-from :
+    (t : Tables) (ss : List Step) (p : ℕ) → Sized t → generationAt t p < 256
+    → (generationAt (runOf t ss) p < 256)
+    × (generationAt (runOf t ss) p ≡ (generationAt t p + retiresIn p (historyOf t ss)) % 256)
+unfolding runOf historyOf retiresIn
+generation-from t [] p z l = (l, omega arith)
+generation-from t (s ∷ ss) p z l =
+    let c = generation-counted t s p (historyOf (stepOf t s .tables) ss) z l in
+    let k = generation-from (stepOf t s .tables) ss p (sized-step t s z) (c .0) in
+    (k .0, k .1 ∙ c .1)
+
+generation-start : (p : ℕ) → generationAt start p < 256
+unfolding start
+generation-start = repeat-has (λ (x : Passage). x .generation < 256) 16 (freeSlot 0) pastPassage (omega arith) (omega arith)
+
+-- in every run a generation is one byte
+pub generation-below : (ss : List Step) (p : ℕ) → generationAt (runOf start ss) p < 256
+generation-below ss p = generation-from start ss p sized-start (generation-start p) .0
+
+-- the generation counts the accepted retires: what a run adds is their number, and 255 is followed by 0
+pub generation-counts-retires :
+    (before after : List Step) (p : ℕ)
+    → generationAt (runOf start (before ++ after)) p
+    ≡ (generationAt (runOf start before) p + retiresIn p (historyOf (runOf start before) after)) % 256
+generation-counts-retires before after p =
+    ap (λ (t : Tables). generationAt t p) (run-on start before after)
+    ∙ generation-from (runOf start before) after p (sized-run before) (generation-below before p) .1
+
+-- ---- handles
+
+-- a step that names a handle is refused where the slot has another generation
+module _ (t : Tables) (h : ℕ) (old : generationAt t (slotOf h) ≢ generationOf h) where
+  -- refusal 3 is the second that each of these steps tries
+  told-apart :
+      (g : ℕ) → eqb g h ≡ true
+      → (isFree (passageAt t (slotOf g) .status) || not (eqb (generationAt t (slotOf g)) (generationOf g))) ≡ false
+      → ⊥
+  told-apart g e f =
+      let q : g ≡ h = eqb-true g h e in
+      old (subst (λ (x : ℕ). generationAt t (slotOf x) ≡ generationOf x) q (eqb-true _ _ (not-false _ (or-right (isFree (passageAt t (slotOf g) .status)) _ f))))
+
+  decided-apart :
+      (step : Step) → names h step ≡ true
+      → isAccepted (decideOf step (placesOf t (lookOf step) .message) (remains t (placesOf t (lookOf step) .slot)) (seenOf t (placesOf t (lookOf step))) .answer) ≡ true
+      → ⊥
+  unfolding placesOf decideOf abortOf retireOf refreshOf terminateOf prepareOf openOf askOf closeOf tellOf invokeOf
+  decided-apart (Step.Tick site n) e a = false≢true e
+  decided-apart (Step.Begin home slot q r) e a = false≢true e
+  decided-apart (Step.Invoke g site write object value) e a = told-apart g e (accepted-fine _ _ a .1 .0)
+  decided-apart (Step.Refresh g q r) e a = told-apart g e (accepted-fine _ _ a .1 .0)
+  decided-apart (Step.Terminate g) e a = told-apart g e (accepted-fine _ _ a .1 .0)
+  decided-apart (Step.Prepare g) e a = told-apart g e (accepted-fine _ _ a .1 .0)
+  decided-apart (Step.Ask g site) e a = told-apart g e (accepted-fine _ _ a .1 .0)
+  decided-apart (Step.Close g) e a = told-apart g e (accepted-fine _ _ a .1 .0)
+  decided-apart (Step.Tell g site) e a = told-apart g e (accepted-fine _ _ a .1 .0)
+  decided-apart (Step.Abort g) e a = told-apart g e (accepted-fine _ _ a .1 .0)
+  decided-apart (Step.Deliver m) e a = false≢true e
+  decided-apart (Step.Drop m) e a = false≢true e
+  decided-apart (Step.Sweep site) e a = false≢true e
+  decided-apart (Step.Crash site) e a = false≢true e
+  decided-apart (Step.Recover site) e a = false≢true e
+  decided-apart (Step.Retire g) e a = told-apart g e (accepted-fine _ _ a .1 .0)
+
+  head-apart : (step : Step) → names h step ≡ true → isAccepted (headOf t step .answer) ≡ true → ⊥
+  unfolding headOf
+  head-apart step e a = decided-apart step e a
+
+  pub other-generation-refused : (step : Step) → names h step ≡ true → isAccepted (stepOf t step .answer) ≡ false
+  other-generation-refused step e =
+      ⊎-elim
+      (λ a. absurd (head-apart step e (head-accepted t step a)))
+      (λ a. a)
+      (either (isAccepted (stepOf t step .answer)))
+
+-- An old handle reaches nobody: once its passage has been retired, and until its slot has been retired 256 times, every step that names it is refused
+pub old-handle-reaches-nobody :
+    (before after : List Step) (h : ℕ) → generationOf h ≡ generationAt (runOf start before) (slotOf h)
+    → 1 ≤ retiresIn (slotOf h) (historyOf (runOf start before) after)
+    → retiresIn (slotOf h) (historyOf (runOf start before) after) ≤ 255
+    → (step : Step)
+    → names h step ≡ true
+    → isAccepted (stepOf (runOf start (before ++ after)) step .answer) ≡ false
+old-handle-reaches-nobody before after h e least most =
+    other-generation-refused
+    (runOf start (before ++ after))
+    h
+    (λ q.
+    apart
+    (generationAt (runOf start before) (slotOf h))
+    (retiresIn (slotOf h) (historyOf (runOf start before) after))
+    (generation-below before (slotOf h))
+    least
+    most
+    (sym (generation-counts-retires before after (slotOf h)) ∙ q ∙ e))
+  where
+    apart : (g n : ℕ) → g < 256 → 1 ≤ n → n ≤ 255 → (g + n) % 256 ≢ g
+    apart g n l i j q = let y : (g + n) % 256 ≡ g = q in omega arith
+
+-- "A handle held through 256 reuses of its slot is valid again": the generation is then the same
+pub generation-comes-round :
+    (before after : List Step) (p : ℕ) → retiresIn p (historyOf (runOf start before) after) ≡ 256
+    → generationAt (runOf start (before ++ after)) p ≡ generationAt (runOf start before) p
+generation-comes-round before after p e =
+    let l : generationAt (runOf start before) p < 256 = generation-below before p in
+    generation-counts-retires before after p
+    ∙ (rw e (omega arith))
+
+-- ---- begin
+
+accepted-in-range : (t : Tables) (step : Step) → isAccepted (stepOf t step .answer) ≡ true → inRange t ≡ true
+unfolding stepOf
+accepted-in-range t step a = ⊎-elim (λ q. q) (λ q. absurd (false≢true (rw q at a))) (either (inRange t))
+
+begun-handle :
+    (t : Tables) (home slot q r : ℕ) → isAccepted (headOf t (Step.Begin home slot q r) .answer) ≡ true
+    → (slot < 16) × (answerValue (headOf t (Step.Begin home slot q r) .answer) ≡ handleOf slot (generationAt t (slotOf slot)))
+unfolding headOf placesOf decideOf beginOf
+begun-handle t home slot q r a =
+    let l : slot ≤ 15 =
+    ltb-false 15 slot (or-right (badSite home) _ (or-left (badSite home || ltb 15 slot) (badTimes q r) (accepted-fine _ _ a .0))) in
+    (omega arith, ap answerValue (accepted-value _ _ a))
+
+in-range-begun :
+    (t : Tables) (home slot q r : ℕ) → inRange t ≡ true → stepOf t (Step.Begin home slot q r) ≡ headOf t (Step.Begin home slot q r)
+unfolding stepOf stepInRangeOf turnsUpTo
+in-range-begun t home slot q r e = rw e
+
+-- the handle that an accepted begin gives names its slot, with the generation that the slot has
+pub handle-of-begin :
+    (t : Tables) (home slot q r : ℕ) → isAccepted (stepOf t (Step.Begin home slot q r) .answer) ≡ true
+    → (slotOf (answerValue (stepOf t (Step.Begin home slot q r) .answer)) ≡ slot)
+    × (generationOf (answerValue (stepOf t (Step.Begin home slot q r) .answer)) ≡ generationAt t slot)
+handle-of-begin t home slot q r a =
+    let k = begun-handle t home slot q r (head-accepted t (Step.Begin home slot q r) a) in
+    let l : slot < 16 = k .0 in
+    let y : slotOf slot ≡ slot = omega arith in
+    rw (in-range-begun t home slot q r (accepted-in-range t (Step.Begin home slot q r) a), k .1, y) (omega arith, omega arith)

@@ -1,0 +1,303 @@
+-- A station that has promised keeps its promise until home's word: a prepared visit goes by the close of its commit round at home,
+-- or by the delivery of that round's phase 2 elsewhere, and by no other step; no sweep, crash, abort or retire takes it. Assumes nothing.
+use Prim.Native.Nat.{ℕ, zero, suc, _%_, _≤_, _<_}
+use native.Mathlib.Omega.{arith}
+use mathlib.Core.Path.{_≡_, refl, sym, ap, _∙_, subst₂}
+use mathlib.Core.Logic.{_≢_, ⊎-elim, _⊎_, inl, inr}
+use mathlib.Core.Bool.{Bool, true, false, not, _&&_, _||_, true≢false}
+use mathlib.Core.List.{List}
+use lib.Dec.{eqb, leb}
+use borrow.Author.Tests.{eq-eqb}
+use Rattle.rules.specs.declared.answers.Trip.{Trip}
+use Rattle.rules.specs.declared.answers.Check.{Check}
+use Rattle.rules.specs.LoopsLaws.{either}
+use Rattle.rules.specs.Tables.{start, passageAt, visitAt, messageAt, slotOf}
+use Rattle.rules.specs.Ranges.{inRange}
+use Rattle.rules.specs.Answers.{isAccepted, firstOf, settleOf}
+use Rattle.rules.specs.Parts.{whereThere, askedVisit, toldOf, toldVisit}
+use Rattle.rules.specs.Stations.{tickOf, sweepOf, sweptSlot, crashOf, losesHome, crashedSlot, recoverOf}
+use Rattle.rules.specs.Passages.{beginOf, abortOf, retireOf}
+use Rattle.rules.specs.Rounds.{openOf, refreshOf, terminateOf, prepareOf, askOf, closeOf, tellOf}
+use Rattle.rules.specs.Calls.{invokeOf, emptyOf, deliverCallOf, deliverPhaseOneOf, deliverPhaseTwoOf, deliverAnswerOf, deliverBodyOf, dropOf}
+use Rattle.rules.specs.Machine.{lookOf, placesOf, seenOf, decideOf, stored, headOf, slotPlaces, sweepTurn, crashTurn, turnOf, turnsUpTo, turnCount, stepInRangeOf, stepOf}
+use Rattle.rules.specs.StoredLaws.{Sized, Placed, visit-place-same, visit-after-stored, visit-after-stored-other}
+use Rattle.rules.specs.RangesLaws.{cond-keeps, placed-places, placed-slots}
+use Rattle.rules.specs.RefusedLaws.{refused-leaves}
+use Rattle.rules.specs.Runs.{runOf}
+use Rattle.runs.specs.Types.{Kind, Visit, Asked, Told, Body, Tables, Step, Places, Seen, Outcome}
+use Rattle.runs.specs.Put.{same-or-other}
+use Rattle.runs.specs.Steps.{turn-count-most}
+use Rattle.runs.specs.Rests.{isPrepare, carriesCommit}
+use Rattle.runs.specs.Sizes.{sized-run, sized-head, sized-turn}
+
+-- ---- definitions
+
+-- a visit that is there and prepared: its station has promised
+pub record Promised (t : Tables) (site slot : ℕ) : Type 0 where
+  pub there : visitAt t site slot .there ≡ true
+  pub prepared : visitAt t site slot .prepared ≡ true
+
+-- is the step home's word to the visit of this slot at this site?
+-- At home it is the close of a commit round, elsewhere the delivery of its phase 2. (Sites are 0..7 and messages 0..31, so the remainders change nothing.)
+abbrev pub isWord : Tables → ℕ → ℕ → Step → Bool
+isWord t site slot (Step.Tick a n) = false
+isWord t site slot (Step.Begin home b q r) = false
+isWord t site slot (Step.Invoke h a write object value) = false
+isWord t site slot (Step.Refresh h q r) = false
+isWord t site slot (Step.Terminate h) = false
+isWord t site slot (Step.Prepare h) = false
+isWord t site slot (Step.Ask h a) = false
+isWord t site slot (Step.Close h) = eqb (slotOf h) slot && eqb (passageAt t slot .home % 8) site && isPrepare (passageAt t slot .round .kind)
+isWord t site slot (Step.Tell h a) = false
+isWord t site slot (Step.Abort h) = false
+isWord t site slot (Step.Deliver m) =
+    eqb (slotOf (messageAt t (m % 32) .handle)) slot && eqb (messageAt t (m % 32) .destination % 8) site
+    && carriesCommit (messageAt t (m % 32) .body)
+isWord t site slot (Step.Drop m) = false
+isWord t site slot (Step.Sweep a) = false
+isWord t site slot (Step.Crash a) = false
+isWord t site slot (Step.Recover a) = false
+isWord t site slot (Step.Retire h) = false
+
+-- ---- what a decision leaves of its visit
+
+-- what is kept of a promised visit on a step's way: a sweep looks at the mark again, slot by slot
+abbrev Firm : Trip → Visit → Type 0
+Firm Trip.Nowhere v = v .there ≡ true
+Firm (Trip.Sweep site) v = (v .there ≡ true) × (v .prepared ≡ true)
+Firm (Trip.Crash site) v = v .there ≡ true
+
+firm : (trip : Trip) (v : Visit) → v .there ≡ true → v .prepared ≡ true → Firm trip v
+firm Trip.Nowhere v e f = e
+firm (Trip.Sweep site) v e f = (e, f)
+firm (Trip.Crash site) v e f = e
+
+firm-there : (trip : Trip) (v : Visit) → Firm trip v → v .there ≡ true
+firm-there Trip.Nowhere v e = e
+firm-there (Trip.Sweep site) v e = e .0
+firm-there (Trip.Crash site) v e = e
+
+-- a decision leaves what was decided, or what was seen
+settled-firm :
+    (trip : Trip) (cs : List Check) (v : ℕ) (seen left : Seen) → Firm trip (left .visit) → Firm trip (seen .visit)
+    → Firm trip (settleOf (record { answer = firstOf cs v; left = left }) seen .left .visit)
+settled-firm trip cs v seen left = cond-keeps (λ (x : Seen). Firm trip (x .visit)) (isAccepted (firstOf cs v)) left seen
+
+-- a rule that changes a visit and leaves it there
+changed-there : (v changed : Visit) → v .there ≡ true → changed .there ≡ true → whereThere v changed .there ≡ true
+changed-there v changed e f = rw e f
+
+asked-there : (a : Asked) (n clock : ℕ) (v : Visit) → v .there ≡ true → askedVisit a n clock v .there ≡ true
+asked-there (Asked.Refresh r) n clock v e = e
+asked-there Asked.Terminate n clock v e = e
+asked-there Asked.Prepare n clock v e = e
+
+-- phase 2 of a round that is no commit round leaves the visit there
+closed-there : (k : Kind) (m : ℕ) (v : Visit) → v .there ≡ true → isPrepare k ≡ false → toldVisit (toldOf k m) v .there ≡ true
+closed-there Kind.None m v e f = e
+closed-there (Kind.Refresh q r) m v e f = e
+closed-there Kind.Terminate m v e f = e
+closed-there Kind.Prepare m v e f = absurd (true≢false f)
+
+delivered-there :
+    (body : Body) (m : ℕ) (seen : Seen) → seen .visit .there ≡ true → carriesCommit body ≡ false
+    → deliverBodyOf body m seen .left .visit .there ≡ true
+unfolding deliverBodyOf emptyOf deliverCallOf deliverPhaseOneOf deliverPhaseTwoOf deliverAnswerOf
+delivered-there Body.Empty m seen e f = settled-firm Trip.Nowhere _ _ seen seen e e
+delivered-there (Body.Call c) m seen e f =
+    settled-firm Trip.Nowhere _ _ seen _ (cond-keeps (λ (v : Visit). v .there ≡ true) (seen .visit .there) (seen .visit) _ e refl) e
+delivered-there (Body.PhaseOne n a) m seen e f =
+    settled-firm Trip.Nowhere _ _ seen _ (asked-there a n _ (seen .visit) e) e
+delivered-there (Body.PhaseTwo n (Told.Refresh q)) m seen e f = settled-firm Trip.Nowhere _ _ seen _ e e
+delivered-there (Body.PhaseTwo n (Told.Terminate x)) m seen e f = settled-firm Trip.Nowhere _ _ seen _ e e
+delivered-there (Body.PhaseTwo n Told.Prepare) m seen e f = absurd (true≢false f)
+delivered-there (Body.Answer n r q) m seen e f = settled-firm Trip.Nowhere _ _ seen _ e e
+
+-- at its own slot and site, a step that is no word
+pub word-here : (a b : ℕ) (c : Bool) → (eqb a a && eqb b b && c) ≡ false → c ≡ false
+word-here a b c f = rw (eq-eqb a a refl, eq-eqb b b refl) at f
+
+decided-firm :
+    (t : Tables) (step : Step) (place : ℕ) (rest : Bool) → Promised t (placesOf t (lookOf step) .site) (placesOf t (lookOf step) .slot)
+    → isWord t (placesOf t (lookOf step) .site) (placesOf t (lookOf step) .slot) step ≡ false
+    → Firm (lookOf step .trip) (decideOf step place rest (seenOf t (placesOf t (lookOf step))) .left .visit)
+unfolding placesOf decideOf tickOf sweepOf crashOf recoverOf beginOf abortOf retireOf refreshOf terminateOf prepareOf openOf askOf closeOf tellOf invokeOf dropOf
+decided-firm t (Step.Tick site n) place rest k f = settled-firm Trip.Nowhere _ _ _ _ (k .there) (k .there)
+decided-firm t (Step.Begin home slot q r) place rest k f = settled-firm Trip.Nowhere _ _ _ _ refl (k .there)
+decided-firm t (Step.Invoke h site write object value) place rest k f = settled-firm Trip.Nowhere _ _ _ _ (k .there) (k .there)
+decided-firm t (Step.Refresh h q r) place rest k f = settled-firm Trip.Nowhere _ _ _ _ (k .there) (k .there)
+decided-firm t (Step.Terminate h) place rest k f = settled-firm Trip.Nowhere _ _ _ _ (k .there) (k .there)
+decided-firm t (Step.Prepare h) place rest k f = settled-firm Trip.Nowhere _ _ _ _ (k .there) (k .there)
+decided-firm t (Step.Ask h site) place rest k f = settled-firm Trip.Nowhere _ _ _ _ (k .there) (k .there)
+decided-firm t (Step.Close h) place rest k f =
+    settled-firm
+    Trip.Nowhere
+    _
+    _
+    _
+    _
+    (changed-there _ _ (k .there) (closed-there (passageAt t (slotOf h) .round .kind) _ _ (k .there) (word-here (slotOf h) (passageAt t (slotOf h) .home % 8) _ f)))
+    (k .there)
+decided-firm t (Step.Tell h site) place rest k f = settled-firm Trip.Nowhere _ _ _ _ (k .there) (k .there)
+decided-firm t (Step.Abort h) place rest k f = settled-firm Trip.Nowhere _ _ _ _ (changed-there _ _ (k .there) (k .there)) (k .there)
+decided-firm t (Step.Deliver m) place rest k f =
+    delivered-there
+    (messageAt t (m % 32) .body)
+    m
+    _
+    (k .there)
+    (word-here (slotOf (messageAt t (m % 32) .handle)) (messageAt t (m % 32) .destination % 8) _ f)
+decided-firm t (Step.Drop m) place rest k f = settled-firm Trip.Nowhere _ _ _ _ (k .there) (k .there)
+decided-firm t (Step.Sweep site) place rest k f =
+    settled-firm (Trip.Sweep site) _ _ _ _ (k .there, k .prepared) (k .there, k .prepared)
+decided-firm t (Step.Crash site) place rest k f = settled-firm (Trip.Crash site) _ _ _ _ (k .there) (k .there)
+decided-firm t (Step.Recover site) place rest k f = settled-firm Trip.Nowhere _ _ _ _ (k .there) (k .there)
+decided-firm t (Step.Retire h) place rest k f = settled-firm Trip.Nowhere _ _ _ _ (k .there) (k .there)
+
+-- ---- what one slot of a sweep or of a crash leaves of its visit
+
+-- a sweep leaves a prepared visit as it is
+pub prepared-not-swept : (site n : ℕ) (seen : Seen) → seen .visit .prepared ≡ true → sweptSlot site n seen .visit ≡ seen .visit
+unfolding sweptSlot
+prepared-not-swept site n seen e = rw (unswept (seen .visit .there))
+  where
+    unswept : (b : Bool) → (b && not (seen .visit .prepared) && leb (seen .visit .release) (seen .site .clock)) ≡ false
+    unswept true = rw e
+    unswept false = refl
+
+-- a crash leaves every visit there
+crashed-there : (site n : ℕ) (seen : Seen) → seen .visit .there ≡ true → crashedSlot site n seen .visit .there ≡ true
+unfolding crashedSlot
+crashed-there site n seen e =
+    changed-there
+    (seen .visit)
+    _
+    e
+    (cond-keeps (λ (v : Visit). v .there ≡ true) (losesHome site (seen .passage) || not (seen .visit .prepared)) _ (seen .visit) e e)
+
+-- ---- steps, for the visit of one slot at one site
+
+-- what holds of the visit that a store leaves in its own place, and of every other, holds of all
+pub stored-has :
+    (P : Visit → Type 0) (t : Tables) (at : Places) (left : Seen) → Sized t → Placed at → (s p : ℕ) → p < 16
+    → (s ≡ at .site → p ≡ at .slot → P (left .visit))
+    → P (visitAt t s p)
+    → P (visitAt (stored t at left) s p)
+stored-has P t at left z h s p l own other = place (same-or-other s (at .site)) (same-or-other p (at .slot))
+  where
+    place : (s ≡ at .site) ⊎ (s ≢ at .site) → (p ≡ at .slot) ⊎ (p ≢ at .slot) → P (visitAt (stored t at left) s p)
+    place (inl a) (inl b) = rw (a, b, visit-after-stored t at left z h) (own a b)
+    place (inr a) b =
+        rw (visit-after-stored-other t at left s p (λ y. a (visit-place-same s p (at .site) (at .slot) l (h .slot) y .0))) other
+    place (inl a) (inr b) =
+        rw (visit-after-stored-other t at left s p (λ y. b (visit-place-same s p (at .site) (at .slot) l (h .slot) y .1))) other
+
+module _ (s p : ℕ) (slot : p < 16) where
+  head-firm :
+      (t : Tables) (step : Step) → Sized t → Promised t s p → isWord t s p step ≡ false
+      → Firm (lookOf step .trip) (visitAt (headOf t step .tables) s p)
+  unfolding headOf
+  head-firm t step z k f =
+      stored-has
+      (Firm (lookOf step .trip))
+      t
+      (placesOf t (lookOf step))
+      _
+      z
+      (placed-places t (lookOf step))
+      s
+      p
+      slot
+      (λ a b. decided-firm t step _ _ (subst₂ (λ (x y : ℕ). Promised t x y) a b k) (subst₂ (λ (x y : ℕ). isWord t x y step ≡ false) a b f))
+      (firm (lookOf step .trip) (visitAt t s p) (k .there) (k .prepared))
+
+  turn-firm :
+      (trip : Trip) (n : ℕ) (o : Outcome) → n < 16 → Sized (o .tables) → Firm trip (visitAt (o .tables) s p)
+      → Firm trip (visitAt (turnOf trip n o .tables) s p)
+  unfolding sweepTurn crashTurn
+  turn-firm Trip.Nowhere n o l z k = k
+  turn-firm (Trip.Sweep site) n o l z k =
+      stored-has
+      (Firm (Trip.Sweep site))
+      (o .tables)
+      (slotPlaces site n)
+      _
+      z
+      (placed-slots site n l)
+      s
+      p
+      slot
+      (λ a b.
+      let y : Firm (Trip.Sweep site) (visitAt (o .tables) (site % 8) n) = subst₂ (λ (x w : ℕ). Firm (Trip.Sweep site) (visitAt (o .tables) x w)) a b k in
+      rw (prepared-not-swept site n (seenOf (o .tables) (slotPlaces site n)) (y .1)) y)
+      k
+  turn-firm (Trip.Crash site) n o l z k =
+      stored-has
+      (Firm (Trip.Crash site))
+      (o .tables)
+      (slotPlaces site n)
+      _
+      z
+      (placed-slots site n l)
+      s
+      p
+      slot
+      (λ a b.
+      crashed-there site n (seenOf (o .tables) (slotPlaces site n)) (subst₂ (λ (x w : ℕ). visitAt (o .tables) x w .there ≡ true) a b k))
+      k
+
+  turns-firm :
+      (trip : Trip) (o : Outcome) (n : ℕ) → n ≤ 16 → Sized (o .tables) → Firm trip (visitAt (o .tables) s p)
+      → Sized (turnsUpTo trip o n .tables) × Firm trip (visitAt (turnsUpTo trip o n .tables) s p)
+  unfolding turnsUpTo
+  turns-firm trip o zero l z k = (z, k)
+  turns-firm trip o (suc n) l z k =
+      let y = turns-firm trip o n (omega arith) z k in
+      (sized-turn trip n (turnsUpTo trip o n) (y .0), turn-firm trip n (turnsUpTo trip o n) l (y .0) (y .1))
+
+  -- in any tables: a promised visit is there after every step that is no word of home to it
+  pub promised-stays :
+      (t : Tables) (step : Step) → Sized t → Promised t s p → isWord t s p step ≡ false
+      → visitAt (stepOf t step .tables) s p .there ≡ true
+  unfolding stepOf stepInRangeOf
+  promised-stays t step z k f =
+      ⊎-elim
+      (λ q.
+      rw
+      q
+      (firm-there
+      (lookOf step .trip)
+      _
+      (turns-firm
+      (lookOf step .trip)
+      (headOf t step)
+      (turnCount (lookOf step .trip) (headOf t step .answer))
+      (turn-count-most (lookOf step .trip) _)
+      (sized-head t step z)
+      (head-firm t step z k f)
+      .1)))
+      (λ q. rw q (k .there))
+      (either (inRange t))
+
+  -- so where it is gone, the step was home's word, and was accepted
+  pub promised-until-word :
+      (t : Tables) (step : Step) → Sized t → Promised t s p → visitAt (stepOf t step .tables) s p .there ≡ false
+      → (isAccepted (stepOf t step .answer) ≡ true) × (isWord t s p step ≡ true)
+  promised-until-word t step z k gone = (
+    ⊎-elim
+        (λ e. e)
+        (λ e. absurd (true≢false (sym (k .there) ∙ ap (λ (u : Tables). visitAt u s p .there) (sym (refused-leaves t step e)) ∙ gone)))
+        (either (isAccepted (stepOf t step .answer))),
+    ⊎-elim
+        (λ e. e)
+        (λ e. absurd (true≢false (sym (promised-stays t step z k e) ∙ gone)))
+        (either (isWord t s p step)),
+  )
+
+-- A station that has promised keeps its promise until home's word: in every run, a step after which a prepared visit is gone
+-- is an accepted close of its passage's commit round, at home, or an accepted delivery of that round's phase 2, elsewhere
+pub promise-kept-until-word :
+    (ss : List Step) (step : Step) (s p : ℕ) → p < 16 → Promised (runOf start ss) s p
+    → visitAt (stepOf (runOf start ss) step .tables) s p .there ≡ false
+    → (isAccepted (stepOf (runOf start ss) step .answer) ≡ true) × (isWord (runOf start ss) s p step ≡ true)
+promise-kept-until-word ss step s p slot = promised-until-word s p slot (runOf start ss) step (sized-run ss)

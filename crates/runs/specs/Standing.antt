@@ -1,0 +1,387 @@
+-- A promise stands until home lets the station off: no step but home's own takes a prepared visit or its mark. Assumes nothing.
+use Prim.Native.Nat.{ℕ, zero, suc, _%_, _≤_, _<_}
+use native.Mathlib.Omega.{arith}
+use mathlib.Core.Path.{_≡_, refl, sym, _∙_, subst, subst₂}
+use mathlib.Core.Logic.{⊎-elim}
+use mathlib.Core.Bool.{Bool, true, false, cond, _&&_, _||_, true≢false, false≢true}
+use mathlib.Core.List.{List, [], _∷_, _++_}
+use lib.Dec.{eqb}
+use borrow.Author.Tests.{eq-eqb}
+use Rattle.rules.specs.declared.tables.Holder.{Holder}
+use Rattle.rules.specs.declared.answers.Trip.{Trip}
+use Rattle.rules.specs.declared.answers.Check.{Check}
+use Rattle.rules.specs.LoopsLaws.{either, or-left, or-right, not-false}
+use Rattle.rules.specs.Tables.{start, objectAt, passageAt, visitAt, messageAt, objectSite, slotOf}
+use Rattle.rules.specs.Ranges.{inRange}
+use Rattle.rules.specs.Answers.{isAccepted, firstOf, settleOf}
+use Rattle.rules.specs.AnswersLaws.{Fine, accepted-fine}
+use Rattle.rules.specs.Parts.{isFree, abortedPassage, whereThere, toldOf, toldVisit}
+use Rattle.rules.specs.Stations.{tickOf, sweepOf, crashChecks, crashOf, losesHome, crashedSlot, recoverOf}
+use Rattle.rules.specs.Passages.{beginOf, abortOf, retireOf}
+use Rattle.rules.specs.Rounds.{openOf, refreshOf, terminateOf, prepareOf, askOf, closeOf, tellOf}
+use Rattle.rules.specs.Calls.{invokeOf, emptyOf, deliverCallOf, deliverPhaseOneOf, deliverPhaseTwoOf, deliverAnswerOf, deliverBodyOf, dropOf}
+use Rattle.rules.specs.Machine.{lookOf, placesOf, seenOf, decideOf, stored, headOf, slotPlaces, sweepTurn, crashTurn, turnOf, turnsUpTo, turnCount, stepInRangeOf, stepOf}
+use Rattle.rules.specs.StoredLaws.{Sized, Placed, sized-after-stored, passage-after-stored, passage-after-stored-other}
+use Rattle.rules.specs.RangesLaws.{cond-keeps, placed-places, placed-slots}
+use Rattle.rules.specs.RefusedLaws.{refused-leaves}
+use Rattle.rules.specs.Runs.{runOf}
+use Rattle.runs.specs.Types.{Kind, Status, Passage, Visit, Asked, Told, Body, Tables, Step, Places, Seen, Outcome}
+use Rattle.runs.specs.Put.{same-or-other}
+use Rattle.runs.specs.Steps.{turn-count-most, run-on}
+use Rattle.runs.specs.Sizes.{sized-run, sized-head}
+use Rattle.runs.specs.RunLaws.{free-no-visit}
+use Rattle.runs.specs.Rests.{isPrepare, carriesCommit}
+use Rattle.runs.specs.Promised.{Promised, isWord, stored-has, prepared-not-swept, word-here}
+use Rattle.runs.specs.HeldFast.{let-go-with-visit}
+
+-- ---- definitions
+
+-- a message that asks to terminate
+abbrev pub asksTerminate : Body → Bool
+asksTerminate Body.Empty = false
+asksTerminate (Body.Call c) = false
+asksTerminate (Body.PhaseOne n (Asked.Refresh r)) = false
+asksTerminate (Body.PhaseOne n Asked.Terminate) = true
+asksTerminate (Body.PhaseOne n Asked.Prepare) = false
+asksTerminate (Body.PhaseTwo n d) = false
+asksTerminate (Body.Answer n r q) = false
+
+-- does the step let the station off its promise to this slot? By the commit's last word; by a terminate's first;
+-- and at home by an abort, or by a crash while the passage runs
+abbrev pub letsOff : Tables → ℕ → ℕ → Step → Bool
+letsOff t site slot (Step.Tick a n) = false
+letsOff t site slot (Step.Begin home b q r) = false
+letsOff t site slot (Step.Invoke h a write object value) = false
+letsOff t site slot (Step.Refresh h q r) = false
+letsOff t site slot (Step.Terminate h) = eqb (slotOf h) slot && eqb (passageAt t slot .home % 8) site
+letsOff t site slot (Step.Prepare h) = false
+letsOff t site slot (Step.Ask h a) = false
+letsOff t site slot (Step.Close h) = isWord t site slot (Step.Close h)
+letsOff t site slot (Step.Tell h a) = false
+letsOff t site slot (Step.Abort h) = eqb (slotOf h) slot && eqb (passageAt t slot .home % 8) site
+letsOff t site slot (Step.Deliver m) =
+    eqb (slotOf (messageAt t (m % 32) .handle)) slot && eqb (messageAt t (m % 32) .destination % 8) site
+    && (carriesCommit (messageAt t (m % 32) .body) || asksTerminate (messageAt t (m % 32) .body))
+letsOff t site slot (Step.Drop m) = false
+letsOff t site slot (Step.Sweep a) = false
+letsOff t site slot (Step.Crash a) = eqb (a % 8) site && losesHome a (passageAt t slot)
+letsOff t site slot (Step.Recover a) = false
+letsOff t site slot (Step.Retire h) = false
+
+-- whether an accepted step of the list does
+unfoldable pub letOffIn : Tables → ℕ → ℕ → List Step → Bool
+letOffIn t site slot [] = false
+letOffIn t site slot (x ∷ xs) =
+    (isAccepted (stepOf t x .answer) && letsOff t site slot x) || letOffIn (stepOf t x .tables) site slot xs
+
+-- ---- what a decision leaves of its visit
+
+-- there and prepared
+abbrev Stands : Visit → Type 0
+Stands v = (v .there ≡ true) × (v .prepared ≡ true)
+
+-- an accepted decision leaves what was decided where no check holds
+settled-stands :
+    (cs : List Check) (v : ℕ) (seen left : Seen) → (Fine cs → Stands (left .visit)) → Stands (seen .visit)
+    → Stands (settleOf (record { answer = firstOf cs v; left = left }) seen .left .visit)
+settled-stands cs v seen left f k =
+    ⊎-elim (λ e. rw e (f (accepted-fine cs v e))) (λ e. rw e k) (either (isAccepted (firstOf cs v)))
+
+-- a round of another kind opens or closes: the mark stays
+closed-stands : (k : Kind) (m : ℕ) (v : Visit) → Stands v → isPrepare k ≡ false → Stands (whereThere v (toldVisit (toldOf k m) v))
+closed-stands Kind.None m v e f = cond-keeps Stands (v .there) _ v e e
+closed-stands (Kind.Refresh q r) m v e f = cond-keeps Stands (v .there) _ v e e
+closed-stands Kind.Terminate m v e f = cond-keeps Stands (v .there) _ v e e
+closed-stands Kind.Prepare m v e f = absurd (true≢false f)
+
+delivered-stands :
+    (body : Body) (m : ℕ) (seen : Seen) → Stands (seen .visit) → (carriesCommit body || asksTerminate body) ≡ false
+    → Stands (deliverBodyOf body m seen .left .visit)
+unfolding deliverBodyOf emptyOf deliverCallOf deliverPhaseOneOf deliverPhaseTwoOf deliverAnswerOf
+delivered-stands Body.Empty m seen k f = settled-stands _ _ seen seen (λ g. k) k
+delivered-stands (Body.Call c) m seen k f = settled-stands _ _ seen _ (λ g. rw (k .0) (refl, k .1)) k
+delivered-stands (Body.PhaseOne n (Asked.Refresh r)) m seen k f = settled-stands _ _ seen _ (λ g. k) k
+delivered-stands (Body.PhaseOne n Asked.Terminate) m seen k f = absurd (true≢false f)
+delivered-stands (Body.PhaseOne n Asked.Prepare) m seen k f = settled-stands _ _ seen _ (λ g. (k .0, refl)) k
+delivered-stands (Body.PhaseTwo n (Told.Refresh q)) m seen k f = settled-stands _ _ seen _ (λ g. k) k
+delivered-stands (Body.PhaseTwo n (Told.Terminate x)) m seen k f = settled-stands _ _ seen _ (λ g. k) k
+delivered-stands (Body.PhaseTwo n Told.Prepare) m seen k f = absurd (true≢false f)
+delivered-stands (Body.Answer n r q) m seen k f = settled-stands _ _ seen _ (λ g. k) k
+
+-- at its own slot and site a step of home lets off
+home-here : (a b : ℕ) → (eqb a a && eqb b b) ≡ false → ⊥
+home-here a b f = true≢false (rw (eq-eqb a a refl, eq-eqb b b refl) at f)
+
+-- a slot in use is not begun
+decided-stands :
+    (t : Tables) (step : Step) (place : ℕ) (rest : Bool) → Stands (visitAt t (placesOf t (lookOf step) .site) (placesOf t (lookOf step) .slot))
+    → isFree (passageAt t (placesOf t (lookOf step) .slot) .status) ≡ false
+    → letsOff t (placesOf t (lookOf step) .site) (placesOf t (lookOf step) .slot) step ≡ false
+    → Stands (decideOf step place rest (seenOf t (placesOf t (lookOf step))) .left .visit)
+unfolding placesOf decideOf tickOf sweepOf crashOf recoverOf beginOf abortOf retireOf refreshOf terminateOf prepareOf openOf askOf closeOf tellOf invokeOf dropOf
+decided-stands t (Step.Tick site n) place rest k u f = settled-stands _ _ _ _ (λ g. k) k
+decided-stands t (Step.Begin home slot q r) place rest k u f =
+    settled-stands _ _ _ _ (λ g. absurd (true≢false (sym (not-false (isFree (passageAt t (slotOf slot) .status)) (g .1 .1 .0)) ∙ u))) k
+decided-stands t (Step.Invoke h site write object value) place rest k u f = settled-stands _ _ _ _ (λ g. k) k
+decided-stands t (Step.Refresh h q r) place rest k u f = settled-stands _ _ _ _ (λ g. k) k
+decided-stands t (Step.Terminate h) place rest k u f = absurd (home-here (slotOf h) (passageAt t (slotOf h) .home % 8) f)
+decided-stands t (Step.Prepare h) place rest k u f = settled-stands _ _ _ _ (λ g. (k .0, refl)) k
+decided-stands t (Step.Ask h site) place rest k u f = settled-stands _ _ _ _ (λ g. k) k
+decided-stands t (Step.Close h) place rest k u f =
+    settled-stands
+    _
+    _
+    _
+    _
+    (λ g. closed-stands (passageAt t (slotOf h) .round .kind) _ _ k (word-here (slotOf h) (passageAt t (slotOf h) .home % 8) _ f))
+    k
+decided-stands t (Step.Tell h site) place rest k u f = settled-stands _ _ _ _ (λ g. k) k
+decided-stands t (Step.Abort h) place rest k u f = absurd (home-here (slotOf h) (passageAt t (slotOf h) .home % 8) f)
+decided-stands t (Step.Deliver m) place rest k u f =
+    delivered-stands
+    (messageAt t (m % 32) .body)
+    m
+    _
+    k
+    (word-here (slotOf (messageAt t (m % 32) .handle)) (messageAt t (m % 32) .destination % 8) _ f)
+decided-stands t (Step.Drop m) place rest k u f = settled-stands _ _ _ _ (λ g. k) k
+decided-stands t (Step.Sweep site) place rest k u f = settled-stands _ _ _ _ (λ g. k) k
+decided-stands t (Step.Crash site) place rest k u f = settled-stands _ _ _ _ (λ g. k) k
+decided-stands t (Step.Recover site) place rest k u f = settled-stands _ _ _ _ (λ g. k) k
+decided-stands t (Step.Retire h) place rest k u f = settled-stands _ _ _ _ (λ g. k) k
+
+-- ---- steps, for the visit of one slot at one site
+
+-- what holds of the passage that a store leaves in its own slot, and of every other, holds of all
+passage-has :
+    (P : Passage → Type 0) (t : Tables) (at : Places) (left : Seen) → Sized t → Placed at → (p : ℕ)
+    → (p ≡ at .slot → P (left .passage))
+    → P (passageAt t p)
+    → P (passageAt (stored t at left) p)
+passage-has P t at left z h p own other =
+    ⊎-elim
+    (λ (e : p ≡ at .slot). rw (e, passage-after-stored t at left z h) (own e))
+    (λ n. rw (passage-after-stored-other t at left p n) other)
+    (same-or-other p (at .slot))
+
+module _ (s p : ℕ) (slot : p < 16) where
+  -- a crash at the visit's own site is not the crash of its passage's home
+  abbrev Away : Trip → Passage → Type 0
+  Away Trip.Nowhere x = Unit {0}
+  Away (Trip.Sweep site) x = Unit {0}
+  Away (Trip.Crash site) x = s ≡ site % 8 → losesHome site x ≡ false
+
+  -- what is kept on a step's way
+  record OnWay (trip : Trip) (t : Tables) : Type 0 where
+    sized : Sized t
+    stands : Stands (visitAt t s p)
+    away : Away trip (passageAt t p)
+
+  head-stands :
+      (t : Tables) (step : Step) → Sized t → Promised t s p → isFree (passageAt t p .status) ≡ false → letsOff t s p step ≡ false
+      → Stands (visitAt (headOf t step .tables) s p)
+  unfolding headOf
+  head-stands t step z k u f =
+      stored-has
+      Stands
+      t
+      (placesOf t (lookOf step))
+      _
+      z
+      (placed-places t (lookOf step))
+      s
+      p
+      slot
+      (λ a b.
+      decided-stands
+      t
+      step
+      _
+      _
+      (subst₂ (λ (x y : ℕ). Stands (visitAt t x y)) a b (k .there, k .prepared))
+      (subst (λ (y : ℕ). isFree (passageAt t y .status) ≡ false) b u)
+      (subst₂ (λ (x y : ℕ). letsOff t x y step ≡ false) a b f))
+      (k .there, k .prepared)
+
+  -- a crash's own store leaves the passages
+  crash-away : (t : Tables) (site : ℕ) → Sized t → (P : Passage → Type 0) → P (passageAt t p) → P (passageAt (headOf t (Step.Crash site) .tables) p)
+  unfolding headOf decideOf crashOf
+  crash-away t site z P k =
+      let at : Places = placesOf t (lookOf (Step.Crash site)) in
+      passage-has
+      P
+      t
+      at
+      _
+      z
+      (placed-places t (lookOf (Step.Crash site)))
+      p
+      (λ b. cond-keeps (λ (x : Seen). P (x .passage)) (isAccepted (firstOf (crashChecks site (seenOf t at)) 0)) _ (seenOf t at) (subst (λ (y : ℕ). P (passageAt t y)) b k) (subst (λ (y : ℕ). P (passageAt t y)) b k))
+      k
+
+  head-away :
+      (t : Tables) (step : Step) → Sized t → letsOff t s p step ≡ false → Away (lookOf step .trip) (passageAt (headOf t step .tables) p)
+  head-away t (Step.Tick site n) z f = tt
+  head-away t (Step.Begin home b q r) z f = tt
+  head-away t (Step.Invoke h site write object value) z f = tt
+  head-away t (Step.Refresh h q r) z f = tt
+  head-away t (Step.Terminate h) z f = tt
+  head-away t (Step.Prepare h) z f = tt
+  head-away t (Step.Ask h site) z f = tt
+  head-away t (Step.Close h) z f = tt
+  head-away t (Step.Tell h site) z f = tt
+  head-away t (Step.Abort h) z f = tt
+  head-away t (Step.Deliver m) z f = tt
+  head-away t (Step.Drop m) z f = tt
+  head-away t (Step.Sweep site) z f = tt
+  head-away t (Step.Crash site) z f =
+      crash-away
+      t
+      site
+      z
+      (λ x. s ≡ site % 8 → losesHome site x ≡ false)
+      (λ e. rw (eq-eqb (site % 8) s (sym e)) at f)
+  head-away t (Step.Recover site) z f = tt
+  head-away t (Step.Retire h) z f = tt
+
+  -- one slot of a sweep, and one of a crash
+  turn-on-way : (trip : Trip) (n : ℕ) (o : Outcome) → n < 16 → OnWay trip (o .tables) → OnWay trip (turnOf trip n o .tables)
+  unfolding sweepTurn crashTurn crashedSlot
+  turn-on-way Trip.Nowhere n o l k = k
+  turn-on-way (Trip.Sweep site) n o l k =
+      record {
+        sized = sized-after-stored (o .tables) (slotPlaces site n) _ (k .sized);
+        stands =
+            stored-has Stands (o .tables) (slotPlaces site n) _ (k .sized) (placed-slots site n l) s p slot
+            (λ a b.
+            let y : Stands (visitAt (o .tables) (site % 8) n) = subst₂ (λ (x w : ℕ). Stands (visitAt (o .tables) x w)) a b (k .stands) in
+            rw (prepared-not-swept site n (seenOf (o .tables) (slotPlaces site n)) (y .1)) y)
+            (k .stands);
+        away = tt;
+      }
+  turn-on-way (Trip.Crash site) n o l k =
+      record {
+        sized = sized-after-stored (o .tables) (slotPlaces site n) _ (k .sized);
+        stands =
+            stored-has Stands (o .tables) (slotPlaces site n) _ (k .sized) (placed-slots site n l) s p slot
+            (λ a b.
+            let y : Stands (visitAt (o .tables) (site % 8) n) = subst₂ (λ (x w : ℕ). Stands (visitAt (o .tables) x w)) a b (k .stands) in
+            let w : losesHome site (passageAt (o .tables) n) ≡ false = subst (λ (x : ℕ). losesHome site (passageAt (o .tables) x) ≡ false) b (k .away a) in
+            cond-keeps
+            Stands
+            (visitAt (o .tables) (site % 8) n .there)
+            _
+            (visitAt (o .tables) (site % 8) n)
+            (rw (w, y .1) y)
+            y)
+            (k .stands);
+        away =
+            λ a.
+            passage-has
+            (λ x. losesHome site x ≡ false)
+            (o .tables)
+            (slotPlaces site n)
+            _
+            (k .sized)
+            (placed-slots site n l)
+            p
+            (λ b.
+            let w : losesHome site (passageAt (o .tables) n) ≡ false = subst (λ (x : ℕ). losesHome site (passageAt (o .tables) x) ≡ false) b (k .away a) in
+            subst (λ (c : Bool). losesHome site (cond c (abortedPassage (passageAt (o .tables) n)) (passageAt (o .tables) n)) ≡ false) (sym w) w)
+            (k .away a);
+      }
+
+  turns-on-way : (trip : Trip) (o : Outcome) (n : ℕ) → n ≤ 16 → OnWay trip (o .tables) → OnWay trip (turnsUpTo trip o n .tables)
+  unfolding turnsUpTo
+  turns-on-way trip o zero l k = k
+  turns-on-way trip o (suc n) l k = turn-on-way trip n (turnsUpTo trip o n) l (turns-on-way trip o n (omega arith) k)
+
+  -- in any tables: the promise to a passage in use stands after every step that does not let the station off
+  pub promise-stands :
+      (t : Tables) (step : Step) → Sized t → Promised t s p → isFree (passageAt t p .status) ≡ false → letsOff t s p step ≡ false
+      → Promised (stepOf t step .tables) s p
+  unfolding stepOf stepInRangeOf
+  promise-stands t step z k u f =
+      ⊎-elim
+      (λ q.
+      let y =
+      turns-on-way
+      (lookOf step .trip)
+      (headOf t step)
+      (turnCount (lookOf step .trip) (headOf t step .answer))
+      (turn-count-most (lookOf step .trip) _)
+      (record { sized = sized-head t step z; stands = head-stands t step z k u f; away = head-away t step z f }) in
+      rw q (record { there = y .stands .0; prepared = y .stands .1 }))
+      (λ q. rw q k)
+      (either (inRange t))
+
+-- ---- runs
+
+free-says : (x : Status) → isFree x ≡ true → x ≡ Status.Free
+free-says Status.Free e = refl
+free-says Status.Active e = absurd (false≢true e)
+free-says Status.Committing e = absurd (false≢true e)
+free-says Status.Aborted e = absurd (false≢true e)
+free-says Status.Committed e = absurd (false≢true e)
+
+-- what stands of a promise from one moment to another: the visit with its mark, and every object that the passage holds at the site
+pub record StandsFrom (t u : Tables) (site slot : ℕ) : Type 0 where
+  pub promised : Promised u site slot
+  pub objects : (k : ℕ) → objectSite k ≡ site → objectAt t k .holder ≡ Holder.Slot slot → objectAt u k .holder ≡ Holder.Slot slot
+
+module _ (s p : ℕ) (slot : p < 16) where
+  -- in a run the slot of a visit is in use
+  in-use : (ss : List Step) → visitAt (runOf start ss) s p .there ≡ true → isFree (passageAt (runOf start ss) p .status) ≡ false
+  in-use ss there =
+      ⊎-elim
+      (λ e. absurd (true≢false (sym there ∙ free-no-visit ss p slot (free-says (passageAt (runOf start ss) p .status) e) s)))
+      (λ e. e)
+      (either (isFree (passageAt (runOf start ss) p .status)))
+
+  one-step :
+      (ss : List Step) (x : Step) → Promised (runOf start ss) s p → (isAccepted (stepOf (runOf start ss) x .answer) && letsOff (runOf start ss) s p x) ≡ false
+      → StandsFrom (runOf start ss) (stepOf (runOf start ss) x .tables) s p
+  one-step ss x k f =
+      record {
+        promised = next;
+        objects =
+            λ j y held.
+            ⊎-elim
+            (λ e. e)
+            (λ gone. absurd (true≢false (sym (next .there) ∙ subst (λ (a : ℕ). visitAt (stepOf (runOf start ss) x .tables) a p .there ≡ false) y gone)))
+            (let-go-with-visit j p slot (runOf start ss) x (sized-run ss) held);
+      }
+    where
+      next : Promised (stepOf (runOf start ss) x .tables) s p
+      next =
+          ⊎-elim
+          (λ e. promise-stands s p slot (runOf start ss) x (sized-run ss) k (in-use ss (k .there)) (rw e at f))
+          (λ e. rw (refused-leaves (runOf start ss) x e) k)
+          (either (isAccepted (stepOf (runOf start ss) x .answer)))
+
+  run-stands :
+      (ss after : List Step) → Promised (runOf start ss) s p → letOffIn (runOf start ss) s p after ≡ false
+      → StandsFrom (runOf start ss) (runOf (runOf start ss) after) s p
+  unfolding runOf letOffIn
+  run-stands ss [] k f = record { promised = k; objects = λ j y held. held }
+  run-stands ss (x ∷ xs) k f =
+      let now : Bool = isAccepted (stepOf (runOf start ss) x .answer) && letsOff (runOf start ss) s p x in
+      let e : runOf start (ss ++ (x ∷ [])) ≡ stepOf (runOf start ss) x .tables = run-on start ss (x ∷ []) in
+      let a : StandsFrom (runOf start ss) (stepOf (runOf start ss) x .tables) s p = one-step ss x k (or-left now _ f) in
+      let b : StandsFrom (stepOf (runOf start ss) x .tables) (runOf (stepOf (runOf start ss) x .tables) xs) s p =
+      subst
+      (λ (t : Tables). Promised t s p → letOffIn t s p xs ≡ false → StandsFrom t (runOf t xs) s p)
+      e
+      (run-stands (ss ++ (x ∷ [])) xs)
+      (a .promised)
+      (or-right now _ f) in
+      record { promised = b .promised; objects = λ j y held. b .objects j y (a .objects j y held) }
+
+-- A promise stands until home lets the station off: in every run, as long as no accepted step does,
+-- the visit is there and prepared, and every object that the passage held at the site is held by it
+pub promise-stands-until-let-off :
+    (before after : List Step) (s p : ℕ) → p < 16 → Promised (runOf start before) s p
+    → letOffIn (runOf start before) s p after ≡ false
+    → StandsFrom (runOf start before) (runOf start (before ++ after)) s p
+promise-stands-until-let-off before after s p slot k f =
+    rw (run-on start before after) (run-stands s p slot before after k f)
