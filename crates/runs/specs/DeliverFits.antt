@@ -14,12 +14,12 @@ use Rattle.rules.specs.Answers.{isAccepted, settleOf}
 use Rattle.rules.specs.Calls.{mailClock, calledVisit, callChecks, callDone, roundChecks, atHome, replyOf, phaseOneDone, phaseTwoDone, answerChecks, answerDone, emptyOf, deliverCallOf, deliverPhaseOneOf, deliverPhaseTwoOf, deliverAnswerOf, deliverBodyOf, deliverOf}
 use Rattle.rules.specs.Machine.{lookOf, placesOf, seenOf}
 use Rattle.rules.specs.AnswersLaws.{Fine, accepted-fine, settle-accepted}
-use Rattle.rules.specs.RangesLaws.{cond-keeps, seen-in-range, placed-places}
+use Rattle.rules.specs.RangesLaws.{seen-in-range, placed-places}
 use Rattle.rules.specs.RangesFits.{seen-says}
 use Rattle.runs.specs.Types.{Passage, Visit, Call, Asked, Told, Body, Message, Tables, Step, Places, Seen, Decision}
 use Rattle.runs.specs.View.{View, Ledger, mailOf, viewOf}
 use Rattle.runs.specs.Clauses.{sentFigures}
-use Rattle.runs.specs.Store.{Own, Fitting, own-mail}
+use Rattle.runs.specs.Store.{Fitting, own-mail, reply-own}
 use Rattle.runs.specs.Fits.{not-free}
 use Rattle.runs.specs.DeliverKept.{LandedAt, when-false, call-lands, one-lands, one-away, two-lands, two-away, answer-lands}
 
@@ -92,17 +92,6 @@ module _ (t : Tables) (at : Places) (m : ℕ) (own : slotOf (messageAt t (at .me
             (leb-false _ _ (or-left _ (calledVisit c (visitAt t (at .site) (at .slot)) .dead) (fine .1 .1 .1 .0))));
       }
 
-  -- the answer is of the same slot
-  reply-own : (v : Visit) → Own (at .slot) (replyOf v clock seen)
-  reply-own v =
-      cond-keeps
-      (Own (at .slot))
-      (atHome seen)
-      noMessage
-      (answerMessage v (letter .destination) (passageAt t (at .slot) .home) (letter .handle) clock)
-      (inl refl)
-      (inr own)
-
   pub phase-one-fits-at :
       (n : ℕ) (asked : Asked) → letter .body ≡ Body.PhaseOne n asked
       → Fine (roundChecks m (asksLife asked) (leb n (seen .visit .round)) clock seen)
@@ -110,7 +99,7 @@ module _ (t : Tables) (at : Places) (m : ℕ) (own : slotOf (messageAt t (at .me
   phase-one-fits-at n asked body fine =
       record {
         clock = clock-on;
-        mail = inr (inr own, reply-own asks′);
+        mail = inr (inr own, reply-own (at .slot) clock asks′ seen own);
         own =
             λ l h.
             let away : atHome seen ≡ false =

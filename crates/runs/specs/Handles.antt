@@ -30,7 +30,7 @@ use Rattle.runs.specs.Types.{Passage, Body, Tables, Step, Places, Seen, 
 use Rattle.runs.specs.Put.{same-or-other}
 use Rattle.runs.specs.Steps.{head-accepted, turn-count-most, run-on}
 use Rattle.runs.specs.Sizes.{sized-start, sized-run, sized-step, sized-head, sized-turn}
-use Rattle.runs.specs.Ledgers.{repeat-has}
+use Rattle.runs.specs.Plain.{repeat-has}
 use Rattle.runs.specs.Orphans.{retires}
 
 -- ---- definitions

@@ -1,10 +1,10 @@
 -- The ledgers along a run, and the invariant of every slot in every run. Assumes nothing.
-use Prim.Native.Nat.{ℕ, zero, suc, _<_}
+use Prim.Native.Nat.{ℕ, _<_}
 use native.Mathlib.Omega.{arith}
 use mathlib.Core.Path.{_≡_, refl, ap}
 use mathlib.Core.Bool.{true, false, not, _||_}
 use mathlib.Core.List.{List}
-use lib.ListN.{getD, replicate, getD-replicate}
+use lib.ListN.{getD-replicate}
 use Rattle.rules.specs.Tables.{start, passageAt, visitPlace, pastPassage, pastVisit, pastMessage, noVisit, noMessage, freeSlot}
 use Rattle.rules.specs.Answers.{isAccepted, settleOf}
 use Rattle.rules.specs.AnswersLaws.{accepted-fine}
@@ -22,6 +22,7 @@ use Rattle.rules.specs.Machine.{lookOf, placesOf, seenOf, remains, decideOf, he
 use Rattle.rules.specs.Runs.{runOf}
 use Rattle.runs.specs.Types.{Kind, Passage, Body, Tables, Step, Places, Seen, Decision, Outcome}
 use Rattle.rules.specs.declared.answers.Trip.{Trip}
+use Rattle.runs.specs.Plain.{repeat-has}
 use Rattle.runs.specs.View.{Ledger, mailOf, viewOf, noLedger}
 use Rattle.runs.specs.Clauses.{Holds}
 use Rattle.runs.specs.LifeKept.{free-kept}
@@ -208,14 +209,6 @@ turn-kept (Trip.Crash site) slot o ls i k =
     }
 
 -- ---- and holds at the start
-
--- every place of a repeated record holds it, and so does a place past the end, if what stands there is as good
-pub repeat-has :
-    {A : Type 0} (P : A → Type 0) (n : ℕ) (x d : A) → P x → P d → (i : ℕ) → P (getD (replicate n x) i d)
-repeat-has P zero x d h k zero = k
-repeat-has P zero x d h k (suc i) = k
-repeat-has P (suc n) x d h k zero = h
-repeat-has P (suc n) x d h k (suc i) = repeat-has P n x d h k i
 
 start-kept : Kept start (λ p. noLedger)
 unfolding start

@@ -10,7 +10,7 @@ use Rattle.rules.specs.Runs.{runOf}
 use Rattle.runs.specs.Types.{Phase, Status, Call, Body, Message, Tables, Step}
 use Rattle.runs.specs.View.{Ledger, viewOf}
 use Rattle.runs.specs.Clauses.{isRefresh, isBinding, Below, QuietMail, Quiet, Holds}
-use Rattle.runs.specs.TimesKept.{call-says}
+use Rattle.runs.specs.ClausesLaws.{call-says}
 use Rattle.runs.specs.Store.{own-mail}
 use Rattle.runs.specs.Closing.{closing-refresh, closing-binding}
 use Rattle.runs.specs.CallsKept.{never-twice}

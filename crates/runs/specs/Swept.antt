@@ -1,6 +1,7 @@
 -- A sweep goes through the slots: an unprepared visit whose release time the clock has reached is gone afterwards. Assumes nothing.
 use Prim.Native.Nat.{ℕ, zero, suc, _%_, _<_, _≤_}
 use native.Mathlib.Omega.{arith}
+use native.Mathlib.Nat.{ne-of-lt}
 use mathlib.Core.Path.{_≡_, refl, sym, ap, _∙_, subst}
 use mathlib.Core.Logic.{_≢_, ⊎-elim, _⊎_, inl, inr}
 use mathlib.Core.Bool.{Bool, true, false, cond, false≢true}
@@ -47,9 +48,6 @@ ripe-goes site slot seen r =
     (λ e. rw (ripe-swept seen r e))
     (λ e. cond-keeps (λ (x : Seen). x .visit .there ≡ false) (isSwept seen) _ seen refl e)
     (either (seen .visit .there))
-
-unequal : (i j : ℕ) → i < j → i ≡ j → ⊥
-unequal i j l e = let q : i ≡ j = e in omega arith
 
 -- ---- the sixteen turns of a sweep at a station, for one slot
 
@@ -135,7 +133,7 @@ module _ (site p : ℕ) (place : site < 8) (slot : p < 16) where
           → (p < suc n) × (visitAt (sweepTurn site n (turnsUpTo (Trip.Sweep site) o n) .tables) site p .there ≡ false)
       gone (j, e) = (
         omega arith,
-        ap (λ (v : Visit). v .there) (turn-other n (turnsUpTo (Trip.Sweep site) o n) i (λ q. absurd (unequal p n j (sym q)))) ∙ e,
+        ap (λ (v : Visit). v .there) (turn-other n (turnsUpTo (Trip.Sweep site) o n) i (λ q. absurd (ne-of-lt j (sym q)))) ∙ e,
       )
 
       still :
