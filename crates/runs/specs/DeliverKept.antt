@@ -9,6 +9,7 @@ use Rattle.rules.specs.Tables.{noVisit, noMessage}
 use Rattle.rules.specs.Parts.{isFree, isPhaseOne, newVisit, countReceived, withRound, withAnswer, askedVisit, toldVisit, answerMessage}
 use Rattle.rules.specs.Calls.{calledVisit}
 use Rattle.runs.specs.Types.{Figures, Status, Passage, Visit, Call, Asked, Told, Body, Message}
+use Rattle.runs.specs.Plain.{when-true, when-false}
 use Rattle.runs.specs.Put.{put, put-same, put-all}
 use Rattle.runs.specs.View.{View, Ledger, noLedger, noted, relast, firstSeen}
 use Rattle.runs.specs.Clauses.{QuietMail, Quiet, sentFigures, InAnswer, FigureFine, PhaseOneFine, LateFine, Holds}
@@ -36,15 +37,6 @@ mail-lost w l k h =
     (λ s e. refl)
     (λ s y e. inl e)
     h
-
--- a choice whose test is known
-when-true : {A : Type 0} (P : A → Type 0) (b : Bool) (x y : A) → b ≡ true → P x → P (cond b x y)
-when-true P true x y e z = z
-when-true P false x y e z = absurd (false≢true e)
-
-pub when-false : {A : Type 0} (P : A → Type 0) (b : Bool) (x y : A) → b ≡ false → P y → P (cond b x y)
-when-false P true x y e z = absurd (true≢false e)
-when-false P false x y e z = z
 
 -- a visit that is made where there was none
 noted-made :

@@ -1,19 +1,21 @@
 -- From tables to views: a step stores one site, one passage, one visit and one message; what each slot then sees. Assumes nothing.
 use Prim.Native.Nat.{ℕ, _<_, _≤_}
 use native.Mathlib.Omega.{arith}
-use mathlib.Core.Path.{_≡_, refl, sym, ap, _∙_}
+use mathlib.Core.Path.{_≡_, refl, sym, ap, _∙_, subst}
 use mathlib.Core.Logic.{_≢_, ⊎-elim, _⊎_, inl, inr}
 use mathlib.Core.Bool.{Bool, true, false, cond, not, _&&_}
 use lib.Dec.{eqb}
 use borrow.Author.Tests.{eq-eqb, ne-eqb}
 use Rattle.rules.specs.Tables.{siteAt, visitAt, messageAt, noMessage, slotOf}
+use Rattle.rules.specs.Answers.{isAccepted, settleOf}
+use Rattle.rules.specs.AnswersLaws.{settle-accepted}
 use Rattle.rules.specs.Parts.{isFree, isEmpty, answerMessage}
 use Rattle.rules.specs.Calls.{atHome, replyOf}
 use Rattle.rules.specs.Machine.{seenOf, stored}
 use Rattle.rules.specs.LoopsLaws.{either}
 use Rattle.rules.specs.RangesLaws.{cond-keeps}
 use Rattle.rules.specs.StoredLaws.{Sized, Placed, visit-place-same, site-after-stored, passage-after-stored, visit-after-stored, message-after-stored, site-after-stored-other, passage-after-stored-other, visit-after-stored-other, message-after-stored-other}
-use Rattle.runs.specs.Types.{Site, Status, Passage, Visit, Body, Message, Tables, Places, Seen}
+use Rattle.runs.specs.Types.{Site, Status, Passage, Visit, Body, Message, Tables, Places, Seen, Decision}
 use Rattle.runs.specs.Put.{put, put-same, put-other, put-all, same-or-other, everywhere, put-back}
 use Rattle.runs.specs.View.{View, Past, Ledger, mailOf, viewOf, noLedger, relast, notedPast, noted}
 use Rattle.runs.specs.Clauses.{Quiet, Holds}
@@ -50,6 +52,10 @@ Own p m = (isEmpty (m .body) ≡ true) ⊎ (slotOf (m .handle) ≡ p)
 -- a message of slot p is seen by p as it is
 pub own-mail : (p : ℕ) (m : Message) → isEmpty (m .body) ≡ false → slotOf (m .handle) ≡ p → mailOf p m ≡ m
 own-mail p m b e = rw (b, eq-eqb (slotOf (m .handle)) p e)
+
+pub own-body :
+    (p : ℕ) (m : Message) (b : Body) → m .body ≡ b → isEmpty b ≡ false → slotOf (m .handle) ≡ p → mailOf p m .body ≡ b
+own-body p m b e full h = ap (λ (x : Message). x .body) (own-mail p m (ap isEmpty e ∙ full) h) ∙ e
 
 -- an empty one as empty
 pub empty-mail : (p : ℕ) (m : Message) → isEmpty (m .body) ≡ true → mailOf p m ≡ noMessage
@@ -163,6 +169,12 @@ pub record Fitting (t : Tables) (at : Places) (left : Seen) : Type 0 where
       → Holds
       (leftView (viewOf t (at .slot)) (at .site) (at .message) (left .passage) (left .visit) (left .site .clock) (mailOf (at .slot) (left .message)))
       (nextLedger l (at .site) (seenOf t at) left)
+
+-- an accepted decision leaves what it decided
+pub settled-fits :
+    (t : Tables) (at : Places) (d : Decision) → isAccepted (d .answer) ≡ true → Fitting t at (d .left)
+    → Fitting t at (settleOf d (seenOf t at) .left)
+settled-fits t at d e x = subst (Fitting t at) (sym (settle-accepted d (seenOf t at) e)) x
 
 -- then every slot's invariant is kept: its own by its law, the others' by the frame law
 module _ (t : Tables) (at : Places) (left : Seen) (z : Sized t) (h : Placed at) (x : Fitting t at left) where

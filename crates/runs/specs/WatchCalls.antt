@@ -15,7 +15,7 @@ use Rattle.rules.specs.Machine.{seenOf}
 use Rattle.rules.specs.RangesLaws.{cond-keeps}
 use Rattle.runs.specs.Types.{Visit, Call, Asked, Told, Body, Message, Tables, Places, Seen, Decision}
 use Rattle.runs.specs.View.{View, viewOf}
-use Rattle.runs.specs.Store.{own-mail, reply-own}
+use Rattle.runs.specs.Store.{own-body, reply-own}
 use Rattle.runs.specs.WatchKept.{BodyKeeps}
 use Rattle.runs.specs.WatchMailKept.{mail-keeps, empty-keeps, seen-keeps}
 use Rattle.runs.specs.WatchPassageKept.{passage-stays, answered-keeps, asked-home, told-home}
@@ -72,7 +72,7 @@ module _ (latest : ℕ) (t : Tables) (at : Places) (m : ℕ) (own : slotOf (mess
   letter-keeps b body full =
       subst
       (BodyKeeps latest view)
-      (ap (λ (x : Message). x .body) (own-mail (at .slot) letter (ap isEmpty body ∙ full) own) ∙ body)
+      (own-body (at .slot) letter b body full own)
       (mail-keeps latest view (at .message))
 
   pub call-keeps : (c : Call) → letter .body ≡ Body.Call c → Fine (callChecks m c seen) → Keeps latest t at (callDone m c seen .left)
