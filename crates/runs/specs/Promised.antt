@@ -22,12 +22,12 @@ use Rattle.rules.specs.Calls.{invokeOf, emptyOf, deliverCallOf, deliverPhaseOne
 use Rattle.rules.specs.Machine.{lookOf, placesOf, seenOf, decideOf, stored, headOf, slotPlaces, sweepTurn, crashTurn, turnOf, turnsUpTo, turnCount, stepInRangeOf, stepOf}
 use Rattle.rules.specs.StoredLaws.{Sized, Placed, visit-place-same, visit-after-stored, visit-after-stored-other}
 use Rattle.rules.specs.RangesLaws.{cond-keeps, placed-places, placed-slots}
+use Rattle.rules.specs.RangesKept.{turn-count-most}
 use Rattle.rules.specs.RefusedLaws.{refused-leaves}
 use Rattle.rules.specs.Runs.{runOf}
 use Rattle.runs.specs.Types.{Kind, Visit, Told, Body, Tables, Step, Places, Seen, Outcome}
 use Rattle.runs.specs.Put.{same-or-other}
 use Rattle.runs.specs.TimesKept.{asked-says}
-use Rattle.runs.specs.Steps.{turn-count-most}
 use Rattle.runs.specs.Rests.{isPrepare, carriesCommit}
 use Rattle.runs.specs.Sizes.{sized-run, sized-head, sized-turn}
 

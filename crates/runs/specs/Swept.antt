@@ -13,6 +13,7 @@ use Rattle.rules.specs.Answers.{isAccepted}
 use Rattle.rules.specs.Ranges.{inRange}
 use Rattle.rules.specs.StoredLaws.{Sized, sized-after-stored, visit-place-same, site-after-stored, visit-after-stored, visit-after-stored-other}
 use Rattle.rules.specs.RangesLaws.{cond-keeps, placed-slots}
+use Rattle.rules.specs.RangesKept.{turn-count-most}
 use Rattle.rules.specs.Stations.{isSwept, sweptSlot}
 use Rattle.rules.specs.Machine.{seenOf, stored, headOf, slotPlaces, sweepTurn, turnsUpTo, turnCount, stepInRangeOf, stepOf}
 use Rattle.rules.specs.declared.answers.Trip.{Trip}
@@ -20,7 +21,7 @@ use Rattle.runs.specs.Types.{Site, Visit, Tables, Step, Outcome, Seen}
 use Rattle.runs.specs.Put.{same-or-other}
 use Rattle.runs.specs.Sizes.{sized-head}
 use Rattle.runs.specs.Clocks.{swept-site}
-use Rattle.runs.specs.Steps.{head-accepted, turn-count-most}
+use Rattle.runs.specs.Steps.{head-accepted}
 
 -- what must hold of a visit for a sweep at this clock to take it
 pub record Ripe (clock : ℕ) (v : Visit) : Type 0 where
