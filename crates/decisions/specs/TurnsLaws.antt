@@ -1,10 +1,10 @@
 -- Laws of a trip through a site's slots: its places exist, a turn is what it sees, counts and leaves, and it counts from 0. Assumes nothing.
-use Prim.Native.Nat.{ℕ, zero, suc, _+_, _≤_, _<_}
+use Prim.Native.Nat.{ℕ, _+_, _≤_, _<_}
 use native.Mathlib.Omega.{arith}
 use native.Mathlib.Nat.{le-refl}
-use mathlib.Core.Path.{_≡_, refl, sym, ap, _∙_}
+use mathlib.Core.Path.{_≡_, refl}
 use mathlib.Core.Logic.{⊎-elim}
-use mathlib.Core.Bool.{Bool, true, false, cond}
+use mathlib.Core.Bool.{Bool, true, false}
 use mathlib.Core.List.{List, [], _∷_}
 use Rattle.rules.specs.declared.tables.Tables.{Tables}
 use Rattle.rules.specs.declared.steps.Step.{Step}
@@ -16,13 +16,14 @@ use Rattle.rules.specs.declared.answers.Trip.{Trip}
 use Rattle.rules.specs.Ranges.{inRange}
 use Rattle.rules.specs.RangesLaws.{placed-slots, seen-in-range}
 use Rattle.rules.specs.RangesFits.{sane-seen}
+pub use Rattle.rules.specs.RangesKept.{turn-count-most}
 use Rattle.rules.specs.Sane.{Sane}
 use Rattle.rules.specs.Loops.{oneIf}
 use Rattle.rules.specs.LoopsLaws.{either}
-use Rattle.rules.specs.Answers.{answerValue, firstOf, isAccepted}
+use Rattle.rules.specs.Answers.{answerValue, firstOf}
 use Rattle.rules.specs.Stations.{sweepOf, sweepChecks}
 use Rattle.rules.specs.StoredLaws.{Placed, stored-seen}
-use Rattle.rules.specs.Machine.{lookOf, placesOf, seenOf, stored, decideOf, headOf, countOne, sweepTurn, crashTurn, turnOf, turnCount}
+use Rattle.rules.specs.Machine.{lookOf, placesOf, seenOf, stored, decideOf, headOf, countOne, sweepTurn, crashTurn, turnOf}
 use Rattle.decisions.specs.Turns.{tripPlaces, turnSeen, turnAnswer, tripValue}
 
 pub placed-trip : (trip : Trip) (slot : ℕ) → slot < 16 → Placed (tripPlaces trip slot)
@@ -91,12 +92,3 @@ trip-starts t (Step.Sweep site) = first-value (sweepChecks site (seenOf t (place
 trip-starts t (Step.Crash site) = refl
 trip-starts t (Step.Recover site) = refl
 trip-starts t (Step.Retire h) = refl
-
-sixteen-most : (b : Bool) → cond b 16 0 ≤ 16
-sixteen-most true = le-refl 16
-sixteen-most false = omega arith
-
-pub turn-count-most : (trip : Trip) (answer : Answer) → turnCount trip answer ≤ 16
-turn-count-most Trip.Nowhere answer = omega arith
-turn-count-most (Trip.Sweep site) answer = sixteen-most (isAccepted answer)
-turn-count-most (Trip.Crash site) answer = sixteen-most (isAccepted answer)

@@ -277,7 +277,8 @@ sixteen-or-none : (b : Bool) → cond b 16 0 ≤ 16
 sixteen-or-none true = omega arith
 sixteen-or-none false = omega arith
 
-turn-count-most : (trip : Trip) (a : Answer) → turnCount trip a ≤ 16
+-- a trip has at most sixteen turns
+pub turn-count-most : (trip : Trip) (a : Answer) → turnCount trip a ≤ 16
 turn-count-most Trip.Nowhere a = omega arith
 turn-count-most (Trip.Sweep site) a = sixteen-or-none (isAccepted a)
 turn-count-most (Trip.Crash site) a = sixteen-or-none (isAccepted a)

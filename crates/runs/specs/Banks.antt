@@ -1,7 +1,7 @@
 -- The four objects of a bank: what a store leaves of them, and who holds one that is let go or taken. Assumes nothing.
 use Prim.Native.Nat.{ℕ, zero, suc, _+_, _*_, _/_, _%_, _≤_, _<_}
 use native.Mathlib.Omega.{arith}
-use native.Mathlib.Nat.{add-zero}
+use native.Mathlib.Nat.{add-zero, ne-of-lt}
 use mathlib.Core.Path.{_≡_, refl, sym, ap, _∙_, subst}
 use mathlib.Core.Logic.{_≢_, ⊎-elim, _⊎_, inl, inr}
 use mathlib.Core.Bool.{Bool, true, false, cond, true≢false}
@@ -46,23 +46,20 @@ module _ (l xs : List Object) (b : ℕ) where
       ∙ getD-set-other set₁ (b + 1) k _ pastObject (away k (b + 1) (omega arith) (omega arith) o)
       ∙ getD-set-other l b k _ pastObject (away k b (omega arith) (omega arith) o)
 
-  apart : (i j : ℕ) → i < j → i ≢ j
-  apart i j h e = let y : i ≡ j = e in omega arith
-
   four-same : (i : ℕ) → i < 4 → b + 3 < length l → getD set₄ (b + i) pastObject ≡ getD xs i pastObject
   four-same zero h s =
       rw
       (add-zero b)
-      (getD-set-other set₃ (b + 3) b _ pastObject (apart b (b + 3) (omega arith))
-      ∙ getD-set-other set₂ (b + 2) b _ pastObject (apart b (b + 2) (omega arith))
-      ∙ getD-set-other set₁ (b + 1) b _ pastObject (apart b (b + 1) (omega arith))
+      (getD-set-other set₃ (b + 3) b _ pastObject (ne-of-lt (omega arith))
+      ∙ getD-set-other set₂ (b + 2) b _ pastObject (ne-of-lt (omega arith))
+      ∙ getD-set-other set₁ (b + 1) b _ pastObject (ne-of-lt (omega arith))
       ∙ getD-set-same l b _ pastObject (omega arith))
   four-same (suc zero) h s =
-      getD-set-other set₃ (b + 3) (b + 1) _ pastObject (apart (b + 1) (b + 3) (omega arith))
-      ∙ getD-set-other set₂ (b + 2) (b + 1) _ pastObject (apart (b + 1) (b + 2) (omega arith))
+      getD-set-other set₃ (b + 3) (b + 1) _ pastObject (ne-of-lt (omega arith))
+      ∙ getD-set-other set₂ (b + 2) (b + 1) _ pastObject (ne-of-lt (omega arith))
       ∙ getD-set-same set₁ (b + 1) _ pastObject (rw length-set (omega arith))
   four-same (suc (suc zero)) h s =
-      getD-set-other set₃ (b + 3) (b + 2) _ pastObject (apart (b + 2) (b + 3) (omega arith))
+      getD-set-other set₃ (b + 3) (b + 2) _ pastObject (ne-of-lt (omega arith))
       ∙ getD-set-same set₂ (b + 2) _ pastObject (rw (length-set, length-set) (omega arith))
   four-same (suc (suc (suc zero))) h s =
       getD-set-same set₃ (b + 3) _ pastObject (rw (length-set, length-set, length-set) s)

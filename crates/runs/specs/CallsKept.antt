@@ -13,7 +13,8 @@ use Rattle.rules.specs.Parts.{isEmpty, newVisit, countSent, countReceived, plai
 use Rattle.runs.specs.Types.{Figures, Status, Visit, Call, Body, Message}
 use Rattle.runs.specs.Put.{put, put-same, put-other, put-all}
 use Rattle.runs.specs.View.{View, Past, Ledger, relast, firstSeen}
-use Rattle.runs.specs.Clauses.{Below, Quiet, InAnswer, EdgeFine, SiteFine, CallFine, BodyFine, receivedBy, sentBy, Holds}
+use Rattle.runs.specs.Clauses.{Below, Quiet, InAnswer, EdgeFine, SiteFine, CallFine, receivedBy, sentBy, Holds}
+use Rattle.runs.specs.ClausesLaws.{call-says}
 use Rattle.runs.specs.Shrunk.{around}
 use Rattle.runs.specs.Touched.{figure-fine, one-more, Later, later-sent, later-received, touchedView, callTo, Touch, touched-below, touched-figure, edge-touched, touched}
 
@@ -152,7 +153,7 @@ module _ (w : View) (l : Ledger) (h : Holds w l) (s k d handle stamp : ℕ) (c :
 module _ (w : View) (l : Ledger) (h : Holds w l) (k a : ℕ) (c : Call)
     (body : w .mail k .body ≡ Body.Call c) (at : a ≡ w .mail k .destination) where
   call-fine : CallFine w l (w .mail k) c
-  call-fine = subst (λ (b : Body). BodyFine w l (w .mail k) b) body (h .mail k)
+  call-fine = call-says w l h k c body
 
   call-posted : (k < 32) × (w .mail k .source < 8) × (w .mail k .destination < 8)
   call-posted = h .posted k (rw body)

@@ -23,11 +23,11 @@ use Rattle.rules.specs.Calls.{invokeOf, emptyOf, deliverCallOf, deliverPhaseOne
 use Rattle.rules.specs.Machine.{lookOf, placesOf, seenOf, decideOf, stored, headOf, slotPlaces, sweepTurn, crashTurn, turnOf, turnsUpTo, turnCount, stepInRangeOf, stepOf}
 use Rattle.rules.specs.StoredLaws.{Sized, Placed, site-after-stored, site-after-stored-other}
 use Rattle.rules.specs.RangesLaws.{placed-places, placed-slots}
+use Rattle.rules.specs.RangesKept.{turn-count-most}
 use Rattle.rules.specs.RefusedLaws.{decided-refused, turns-keep}
 use Rattle.rules.specs.Runs.{runOf, actsAtSite}
 use Rattle.runs.specs.Types.{Body, Tables, Step, Places, Seen, Outcome}
 use Rattle.runs.specs.Put.{same-or-other}
-use Rattle.runs.specs.Steps.{turn-count-most}
 use Rattle.runs.specs.Sizes.{step-holds, run-holds, sized-head, sized-turn}
 
 -- ---- what a decision leaves

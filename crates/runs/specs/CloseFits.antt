@@ -1,9 +1,9 @@
 -- The step close keeps the invariant: the passage part, then the home visit's phase 2 part. Assumes nothing.
 use Prim.Native.Nat.{ℕ, _%_, _≤_}
 use native.Mathlib.Omega.{arith}
-use mathlib.Core.Path.{_≡_, refl, sym, ap, _∙_, subst}
+use mathlib.Core.Path.{_≡_, refl, sym, ap, _∙_}
 use mathlib.Core.Logic.{_≢_, _⊎_, inl, inr}
-use mathlib.Core.Bool.{Bool, true, false, cond, true≢false, false≢true}
+use mathlib.Core.Bool.{true, false, cond, false≢true}
 use Rattle.rules.specs.LoopsLaws.{either, not-false}
 use Rattle.rules.specs.Tables.{siteAt, passageAt, messageAt, noVisit}
 use Rattle.rules.specs.AnswersLaws.{Fine}
@@ -11,17 +11,15 @@ use Rattle.rules.specs.Parts.{isPhaseOne, isClosed, nextClock, largestQuiesce, 
 use Rattle.rules.specs.Rounds.{closeChecks, roundTold, closedPassage, closeDone}
 use Rattle.rules.specs.Machine.{lookOf, placesOf, seenOf}
 use Rattle.rules.specs.Ranges.{inRange, phaseFits}
-use Rattle.rules.specs.RangesLaws.{placed-places, seen-in-range}
-use Rattle.rules.specs.RangesFits.{seen-says}
 use Rattle.runs.specs.Types.{Kind, Phase, Visit, Tables, Step}
-use Rattle.runs.specs.Put.{put-back}
+use Rattle.runs.specs.Plain.{when-true, when-false}
 use Rattle.runs.specs.View.{View, Ledger, viewOf, noted}
 use Rattle.runs.specs.Clauses.{isBinding, Holds}
 use Rattle.runs.specs.VisitKept.{withVisit, withLast}
 use Rattle.runs.specs.TimesKept.{told-refresh-kept, told-terminate-kept}
 use Rattle.runs.specs.ClosedKept.{closedView, closed-kept, closed-is-quiet, closed-largest}
-use Rattle.runs.specs.Store.{leftView, Fitting, noted-there, noted-same, noted-gone}
-use Rattle.runs.specs.Fits.{moved, moved-kept, news-kept, mail-back, went-kept}
+use Rattle.runs.specs.Store.{leftView, Fitting, noted-there, noted-gone}
+use Rattle.runs.specs.Fits.{moved, moved-kept, news-kept, mail-back, stay-kept, went-kept, phase-fits}
 
 -- ---- phase 2 at the home visit of a passage that has closed
 
@@ -81,14 +79,7 @@ module _ (w : View) (l : Ledger) (a source : ℕ) (h : Holds w l)
 
   -- "Where a rule changes a visit that isn't there .., that part does nothing"
   stay-home : Left (w .visit a)
-  stay-home =
-      rw
-      (noted-same w l a source h)
-      (subst
-      (λ (v : ℕ → Visit).
-      Holds (record { passage = closedView w .passage; visit = v; clock = w .clock; mail = w .mail }) l)
-      (sym (put-back (w .visit) a (w .visit a) refl))
-      (closed-kept w l h one closed))
+  stay-home = stay-kept (closedView w) l a source (closed-kept w l h one closed)
 
   pub told-or-stay :
       w .passage .round .kind ≢ Kind.None
@@ -97,19 +88,11 @@ module _ (w : View) (l : Ledger) (a source : ℕ) (h : Holds w l)
       (noted l a source (whereThere (w .visit a) (toldVisit (roundTold (w .passage .round)) (w .visit a))))
   told-or-stay n = go (either (w .visit a .there))
     where
-      pick : (b : Bool) (x y : Visit) → (b ≡ true) → Left x → Left (cond b x y)
-      pick true x y e z = z
-      pick false x y e z = absurd (false≢true e)
-
-      skip : (b : Bool) (x y : Visit) → (b ≡ false) → Left y → Left (cond b x y)
-      skip true x y e z = absurd (true≢false e)
-      skip false x y e z = z
-
       go :
           (w .visit a .there ≡ true) ⊎ (w .visit a .there ≡ false)
           → Left (cond (w .visit a .there) (toldVisit (roundTold (w .passage .round)) (w .visit a)) (w .visit a))
-      go (inl e) = pick (w .visit a .there) _ _ e (told-home (w .passage .round .kind) refl n e)
-      go (inr e) = skip (w .visit a .there) _ _ e stay-home
+      go (inl e) = when-true Left (w .visit a .there) _ _ e (told-home (w .passage .round .kind) refl n e)
+      go (inr e) = when-false Left (w .visit a .there) _ _ e stay-home
 
 -- ---- the step
 
@@ -173,17 +156,8 @@ close-fits t h range (bad, (there, (down, (wrong, (full, (open′, rest)))))) =
           (omega arith)
           one
           (not-false _ open′)
-          (one-kind _ _ fits one));
+          (one-kind _ _ (phase-fits t (lookOf (Step.Close h)) range) one));
     }
   where
     one : passageAt t (h % 16) .round .phase ≡ Phase.One
     one = one-says _ (not-false _ wrong)
-
-    fits : phaseFits (passageAt t (h % 16) .round .kind) (passageAt t (h % 16) .round .phase) ≡ true
-    fits =
-        seen-says
-        (seenOf t (placesOf t (lookOf (Step.Close h))))
-        (seen-in-range t (placesOf t (lookOf (Step.Close h))) range (placed-places t (lookOf (Step.Close h))))
-        .passage
-        .round
-        .phase

@@ -12,17 +12,11 @@ use Rattle.rules.specs.Rounds.{roundTold, closedPassage}
 use Rattle.runs.specs.Types.{Kind, Phase, Status, Call, Told, Body}
 use Rattle.runs.specs.View.{View, Ledger}
 use Rattle.runs.specs.Clauses.{isRefresh, isBinding, Below, QuietMail, Quiet, BodyFine, Holds}
+use Rattle.runs.specs.ClausesLaws.{binding-no-refresh, call-says}
 use Rattle.runs.specs.RoundKept.{restated-kept}
-use Rattle.runs.specs.Closing.{closing-refresh, closing-making, closing-binding, closing-no-call, call-fine}
+use Rattle.runs.specs.Closing.{closing-refresh, closing-making, closing-binding, closing-no-call}
 
--- ---- kinds and statuses
-
--- a round that binds is no refresh
-not-both : (k : Kind) → isBinding k ≡ true → isRefresh k ≡ true → ⊥
-not-both Kind.None b r = false≢true b
-not-both (Kind.Refresh q x) b r = false≢true b
-not-both Kind.Terminate b r = false≢true r
-not-both Kind.Prepare b r = false≢true r
+-- ---- statuses
 
 -- a passage that is over stays so
 over-told : (d : Told) (s : Status) → isOver s ≡ true → isOver (toldStatus d s) ≡ true
@@ -91,7 +85,7 @@ module _ (w : View) (l : Ledger) (h : Holds w l)
   quiet-body y k (Body.PhaseTwo n (Told.Refresh q)) e f =
       let r : l (w .mail k .destination) .last .round ≡ w .passage .round .number =
       closed-round y (w .mail k .destination) (f .1 .seen) in
-      let x : n ≢ w .passage .round .number = λ z. not-both (w .passage .round .kind) y (f .1 .kind z) in
+      let x : n ≢ w .passage .round .number = λ z. binding-no-refresh (w .passage .round .kind) y (f .1 .kind z) in
       (f .1 .seen, omega (arith, f .1 .number))
   quiet-body y k (Body.PhaseTwo n (Told.Terminate m)) e f = tt
   quiet-body y k (Body.PhaseTwo n Told.Prepare) e f = tt
@@ -153,7 +147,7 @@ module _ (w : View) (l : Ledger) (h : Holds w l)
         calls =
             λ k c b s.
             let x : r ≤ c .release =
-            call-fine w l h k c b .refresh-one q r e s (closing-making w l h one closed y k c b s) in
+            call-says w l h k c b .refresh-one q r e s (closing-making w l h one closed y k c b s) in
             omega arith;
       }
 

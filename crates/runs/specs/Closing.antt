@@ -2,7 +2,7 @@
 use Prim.Native.Nat.{ℕ, zero, suc, _<_, _≤_}
 use native.Mathlib.Omega.{arith}
 use native.Mathlib.Nat.{not-suc-le-zero}
-use mathlib.Core.Path.{_≡_, refl, sym, ap, _∙_, subst}
+use mathlib.Core.Path.{_≡_, refl, sym, ap, _∙_}
 use mathlib.Core.Logic.{⊎-elim, _⊎_, inl, inr}
 use mathlib.Core.Bool.{true, false, true≢false}
 use lib.ListN.{getD}
@@ -13,7 +13,8 @@ use Rattle.rules.specs.Parts.{isEmpty, figuresAt, hasAnswered, ifAnswered, sent
 use Rattle.runs.specs.Types.{Phase, Round, Call, Body}
 use Rattle.runs.specs.View.{View, Ledger}
 use Rattle.runs.specs.Put.{same-or-other}
-use Rattle.runs.specs.Clauses.{isRefresh, isBinding, EdgeFine, CallFine, BodyFine, isCallTo, callsTo, receivedBy, sentBy, Holds}
+use Rattle.runs.specs.Clauses.{isRefresh, isBinding, EdgeFine, isCallTo, callsTo, receivedBy, sentBy, Holds}
+use Rattle.runs.specs.ClausesLaws.{call-says}
 use Rattle.runs.specs.Shrunk.{sum-le}
 
 -- ---- what closed says of one site
@@ -41,10 +42,6 @@ module _ (r : Round) (closed : isClosed r ≡ true) where
 -- ---- calls in flight
 
 module _ (w : View) (l : Ledger) (h : Holds w l) where
-  -- what holds of a call in flight
-  pub call-fine : (k : ℕ) (c : Call) → w .mail k .body ≡ Body.Call c → CallFine w l (w .mail k) c
-  call-fine k c e = subst (λ b. BodyFine w l (w .mail k) b) e (h .mail k)
-
   -- a call's message slot is one of 32, and its destination one of 8
   pub call-places : (k : ℕ) (c : Call) → w .mail k .body ≡ Body.Call c → (k < 32) × (w .mail k .destination < 8)
   call-places k c e = let p = h .posted k (ap isEmpty e) in (p .0, p .2)
@@ -112,7 +109,7 @@ module _ (w : View) (l : Ledger) (h : Holds w l)
       → c .round < w .passage .round .number
       → hasAnswered (w .passage .round) (w .mail k .destination) ≡ true
   closing-calls e k c b n =
-      let y = call-fine w l h k c b .edge in
+      let y = call-says w l h k c b .edge in
       let i : w .mail k .source < 8 = h .sites (w .mail k .source) (y .seen) .place in
       let a : hasAnswered (w .passage .round) (w .mail k .source) ≡ true =
       closing-refresh e (w .mail k .source) (y .seen) (omega (arith, y .born)) in
@@ -140,7 +137,7 @@ module _ (w : View) (l : Ledger) (h : Holds w l)
       ⊎-elim
       (λ n. absurd (true≢false (sym (closing-seen e k c b n) ∙ s)))
       (λ n. n)
-      (below-or-last (c .round) (w .passage .round .number) (omega (arith, call-fine w l h k c b .number)))
+      (below-or-last (c .round) (w .passage .round .number) (omega (arith, call-says w l h k c b .number)))
 
   -- when the round binds, all calls that were ever sent to d are counted
   sent-counted :

@@ -10,18 +10,19 @@ use Rattle.rules.specs.LoopsLaws.{or-left, or-right, not-false}
 use Rattle.rules.specs.Tables.{siteAt, passageAt, visitAt, messageAt, noMessage, slotOf}
 use Rattle.rules.specs.Parts.{isFree, isPhaseOne, isEmpty, countReceived, withStatus, withRound, withAnswer, askedVisit, toldVisit, answerMessage, asksLife, tellsLife, askedStatus, toldStatus}
 use Rattle.rules.specs.Ranges.{inRange}
-use Rattle.rules.specs.Answers.{isAccepted, settleOf}
+use Rattle.rules.specs.Answers.{isAccepted}
 use Rattle.rules.specs.Calls.{mailClock, calledVisit, callChecks, callDone, roundChecks, atHome, replyOf, phaseOneDone, phaseTwoDone, answerChecks, answerDone, emptyOf, deliverCallOf, deliverPhaseOneOf, deliverPhaseTwoOf, deliverAnswerOf, deliverBodyOf, deliverOf}
 use Rattle.rules.specs.Machine.{lookOf, placesOf, seenOf}
-use Rattle.rules.specs.AnswersLaws.{Fine, accepted-fine, settle-accepted}
-use Rattle.rules.specs.RangesLaws.{cond-keeps, seen-in-range, placed-places}
+use Rattle.rules.specs.AnswersLaws.{Fine, accepted-fine}
+use Rattle.rules.specs.RangesLaws.{seen-in-range, placed-places}
 use Rattle.rules.specs.RangesFits.{seen-says}
-use Rattle.runs.specs.Types.{Passage, Visit, Call, Asked, Told, Body, Message, Tables, Step, Places, Seen, Decision}
+use Rattle.runs.specs.Types.{Passage, Visit, Call, Asked, Told, Body, Message, Tables, Step, Places, Seen}
+use Rattle.runs.specs.Plain.{when-false}
 use Rattle.runs.specs.View.{View, Ledger, mailOf, viewOf}
 use Rattle.runs.specs.Clauses.{sentFigures}
-use Rattle.runs.specs.Store.{Own, Fitting, own-mail}
+use Rattle.runs.specs.Store.{Fitting, settled-fits, own-mail, own-body, reply-own}
 use Rattle.runs.specs.Fits.{not-free}
-use Rattle.runs.specs.DeliverKept.{LandedAt, when-false, call-lands, one-lands, one-away, two-lands, two-away, answer-lands}
+use Rattle.runs.specs.DeliverKept.{LandedAt, call-lands, one-lands, one-away, two-lands, two-away, answer-lands}
 
 -- ---- a delivery at these places: the message's own slot and its destination
 
@@ -52,7 +53,7 @@ module _ (t : Tables) (at : Places) (m : ℕ) (own : slotOf (messageAt t (at .me
     letter-seen = own-mail (at .slot) letter (ap isEmpty body ∙ full) own
 
     letter-body : view .mail (at .message) .body ≡ b
-    letter-body = ap (λ (x : Message). x .body) letter-seen ∙ body
+    letter-body = own-body (at .slot) letter b body full own
 
     letter-here : at .site ≡ view .mail (at .message) .destination
     letter-here = here ∙ sym (ap (λ (x : Message). x .destination) letter-seen)
@@ -92,17 +93,6 @@ module _ (t : Tables) (at : Places) (m : ℕ) (own : slotOf (messageAt t (at .me
             (leb-false _ _ (or-left _ (calledVisit c (visitAt t (at .site) (at .slot)) .dead) (fine .1 .1 .1 .0))));
       }
 
-  -- the answer is of the same slot
-  reply-own : (v : Visit) → Own (at .slot) (replyOf v clock seen)
-  reply-own v =
-      cond-keeps
-      (Own (at .slot))
-      (atHome seen)
-      noMessage
-      (answerMessage v (letter .destination) (passageAt t (at .slot) .home) (letter .handle) clock)
-      (inl refl)
-      (inr own)
-
   pub phase-one-fits-at :
       (n : ℕ) (asked : Asked) → letter .body ≡ Body.PhaseOne n asked
       → Fine (roundChecks m (asksLife asked) (leb n (seen .visit .round)) clock seen)
@@ -110,7 +100,7 @@ module _ (t : Tables) (at : Places) (m : ℕ) (own : slotOf (messageAt t (at .me
   phase-one-fits-at n asked body fine =
       record {
         clock = clock-on;
-        mail = inr (inr own, reply-own asks′);
+        mail = inr (inr own, reply-own (at .slot) clock asks′ seen own);
         own =
             λ l h.
             let away : atHome seen ≡ false =
@@ -296,12 +286,6 @@ module _ (t : Tables) (m : ℕ) (range : inRange t ≡ true) where
       → Fitting t (deliverAt t m) (answerDone m n received q (seenOf t (deliverAt t m)) .left)
   deliver-answer-fits = answer-fits-at t (deliverAt t m) m deliver-own deliver-here deliver-in
 
-  -- an accepted decision leaves what was decided
-  settled-fits :
-      (d : Decision) → isAccepted (d .answer) ≡ true → Fitting t (deliverAt t m) (d .left)
-      → Fitting t (deliverAt t m) (settleOf d (seenOf t (deliverAt t m)) .left)
-  settled-fits d e x = subst (Fitting t (deliverAt t m)) (sym (settle-accepted d (seenOf t (deliverAt t m)) e)) x
-
   body-fits :
       (b : Body) → seenOf t (deliverAt t m) .message .body ≡ b
       → isAccepted (deliverBodyOf b m (seenOf t (deliverAt t m)) .answer) ≡ true
@@ -309,13 +293,13 @@ module _ (t : Tables) (m : ℕ) (range : inRange t ≡ true) where
   unfolding deliverBodyOf emptyOf deliverCallOf deliverPhaseOneOf deliverPhaseTwoOf deliverAnswerOf
   body-fits Body.Empty e y = absurd (true≢false (sym (ap isEmpty e) ∙ accepted-fine _ 0 y .1 .0))
   body-fits (Body.Call c) e y =
-      settled-fits (callDone m c (seenOf t (deliverAt t m))) y (deliver-call-fits c e (accepted-fine _ _ y))
+      settled-fits t (deliverAt t m) (callDone m c (seenOf t (deliverAt t m))) y (deliver-call-fits c e (accepted-fine _ _ y))
   body-fits (Body.PhaseOne n asked) e y =
-      settled-fits (phaseOneDone m n asked (seenOf t (deliverAt t m))) y (deliver-phase-one-fits n asked e (accepted-fine _ _ y))
+      settled-fits t (deliverAt t m) (phaseOneDone m n asked (seenOf t (deliverAt t m))) y (deliver-phase-one-fits n asked e (accepted-fine _ _ y))
   body-fits (Body.PhaseTwo n told) e y =
-      settled-fits (phaseTwoDone m n told (seenOf t (deliverAt t m))) y (deliver-phase-two-fits n told e (accepted-fine _ _ y))
+      settled-fits t (deliverAt t m) (phaseTwoDone m n told (seenOf t (deliverAt t m))) y (deliver-phase-two-fits n told e (accepted-fine _ _ y))
   body-fits (Body.Answer n received q) e y =
-      settled-fits (answerDone m n received q (seenOf t (deliverAt t m))) y (deliver-answer-fits n received q e (accepted-fine _ _ y))
+      settled-fits t (deliverAt t m) (answerDone m n received q (seenOf t (deliverAt t m))) y (deliver-answer-fits n received q e (accepted-fine _ _ y))
 
   pub deliver-fits :
       isAccepted (deliverOf m (seenOf t (deliverAt t m)) .answer) ≡ true

@@ -8,13 +8,15 @@ use Rattle.rules.specs.LoopsLaws.{either}
 use Rattle.rules.specs.Tables.{noVisit, noMessage}
 use Rattle.rules.specs.Parts.{isFree, isPhaseOne, newVisit, countReceived, withRound, withAnswer, askedVisit, toldVisit, answerMessage}
 use Rattle.rules.specs.Calls.{calledVisit}
-use Rattle.runs.specs.Types.{Figures, Kind, Status, Passage, Visit, Call, Asked, Told, Body, Message}
+use Rattle.runs.specs.Types.{Figures, Status, Passage, Visit, Call, Asked, Told, Body, Message}
+use Rattle.runs.specs.Plain.{when-true, when-false}
 use Rattle.runs.specs.Put.{put, put-same, put-all}
 use Rattle.runs.specs.View.{View, Ledger, noLedger, noted, relast, firstSeen}
-use Rattle.runs.specs.Clauses.{isRefresh, isBinding, QuietMail, Quiet, sentFigures, InAnswer, FigureFine, PhaseOneFine, LateFine, BodyFine, Holds}
+use Rattle.runs.specs.Clauses.{QuietMail, Quiet, sentFigures, InAnswer, FigureFine, PhaseOneFine, LateFine, Holds}
+use Rattle.runs.specs.ClausesLaws.{binding-no-refresh, body-says, late-says, terminate-says, prepare-says}
 use Rattle.runs.specs.Shrunk.{shrunk}
 use Rattle.runs.specs.VisitKept.{withVisit, withLast}
-use Rattle.runs.specs.TimesKept.{asked-says, asked-kept, late-says, terminate-says, prepare-says, told-refresh-kept, told-terminate-kept}
+use Rattle.runs.specs.TimesKept.{asked-says, asked-kept, told-refresh-kept, told-terminate-kept}
 use Rattle.runs.specs.MailKept.{withMail, reply-kept}
 use Rattle.runs.specs.RoundKept.{answer-kept}
 use Rattle.runs.specs.CallsKept.{received-kept, never-twice, made-kept}
@@ -35,15 +37,6 @@ mail-lost w l k h =
     (λ s e. refl)
     (λ s y e. inl e)
     h
-
--- a choice whose test is known
-when-true : {A : Type 0} (P : A → Type 0) (b : Bool) (x y : A) → b ≡ true → P x → P (cond b x y)
-when-true P true x y e z = z
-when-true P false x y e z = absurd (false≢true e)
-
-pub when-false : {A : Type 0} (P : A → Type 0) (b : Bool) (x y : A) → b ≡ false → P y → P (cond b x y)
-when-false P true x y e z = absurd (true≢false e)
-when-false P false x y e z = z
 
 -- a visit that is made where there was none
 noted-made :
@@ -134,7 +127,7 @@ module _ (w : View) (l : Ledger) (a k c : ℕ) (h : Holds w l) (i : w .clock a �
     asks = askedVisit asked n c (w .visit a)
 
     one-says : PhaseOneFine later (w .mail k) n asked
-    one-says = subst (λ (b : Body). BodyFine later l (w .mail k) b) body (later-holds .mail k)
+    one-says = body-says later l later-holds k (Body.PhaseOne n asked) body
 
     asks-there : asks .there ≡ true
     asks-there = asked-says asked n c (w .visit a) .there ∙ there
@@ -219,16 +212,10 @@ module _ (w : View) (l : Ledger) (a k c : ℕ) (h : Holds w l) (i : w .clock a �
         subst (QuietMail l (w .mail k .destination)) body (y .mail k) .1 in
         let e : n ≡ l (w .mail k .destination) .last .round = two-round in
         omega arith)
-        (λ b e. clash (w .passage .round .kind) b (says .kind (round ∙ e))))
+        (λ b e. binding-no-refresh (w .passage .round .kind) b (says .kind (round ∙ e))))
       where
         says : LateFine later l (w .mail k) n q
         says = late-says later l later-holds k n q body
-
-        clash : (x : Kind) → isBinding x ≡ true → isRefresh x ≡ true → ⊥
-        clash Kind.None b r = false≢true b
-        clash (Kind.Refresh y z) b r = false≢true b
-        clash Kind.Terminate b r = false≢true r
-        clash Kind.Prepare b r = false≢true r
 
     two-terminate :
         (m source : ℕ) → w .mail k .body ≡ Body.PhaseTwo n (Told.Terminate m)
@@ -264,7 +251,7 @@ module _ (w : View) (l : Ledger) (a k c : ℕ) (h : Holds w l) (i : w .clock a �
     two-lands Told.Prepare source body = two-prepare source body
 
     pub two-away : (told : Told) → w .mail k .body ≡ Body.PhaseTwo n told → w .mail k .destination ≢ w .passage .home
-    two-away told body = subst (BodyFine w l (w .mail k)) body (h .mail k) .0
+    two-away told body = body-says w l h k (Body.PhaseTwo n told) body .0
 
   -- ---- an answer of the open round in phase 1 is kept
 
@@ -281,7 +268,7 @@ module _ (w : View) (l : Ledger) (a k c : ℕ) (h : Holds w l) (i : w .clock a �
     kept = withRound (w .passage) (withAnswer (w .passage .round) source figures)
 
     figures-fine : FigureFine later l source figures
-    figures-fine = subst (BodyFine later l (w .mail k)) body (later-holds .mail k) .1 number
+    figures-fine = body-says later l later-holds k (Body.Answer n received q) body .1 number
 
     in-answer : InAnswer (w .passage .round .number) source figures (w .mail k) (w .mail k .body)
     in-answer =

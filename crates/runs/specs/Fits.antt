@@ -1,17 +1,23 @@
--- What the steps' own laws share: the clock moves first, the ledger gets its news, a message stays. Assumes nothing.
+-- What the steps' own laws share: the clock moves first, the ledger gets its news, a message or a visit stays. Assumes nothing.
 use Prim.Native.Nat.{ℕ, _≤_}
 use native.Mathlib.Omega.{arith}
 use mathlib.Core.Path.{_≡_, refl, sym, ap, _∙_, subst}
 use mathlib.Core.Logic.{_≢_, _⊎_, inl}
 use mathlib.Core.Bool.{true, false, cond, true≢false}
+use Rattle.rules.specs.Tables.{passageAt}
 use Rattle.rules.specs.Parts.{isFree}
-use Rattle.runs.specs.Types.{Status, Passage, Visit, Message}
+use Rattle.rules.specs.Ranges.{inRange, phaseFits}
+use Rattle.rules.specs.RangesLaws.{placed-places, seen-in-range}
+use Rattle.rules.specs.RangesFits.{seen-says}
+use Rattle.rules.specs.Machine.{placesOf, seenOf}
+use Rattle.runs.specs.Types.{Status, Passage, Visit, Message, Tables, Look}
 use Rattle.runs.specs.Put.{put, put-all, put-back}
-use Rattle.runs.specs.View.{View, Ledger, noLedger}
+use Rattle.runs.specs.View.{View, Ledger, noLedger, noted}
 use Rattle.runs.specs.Clauses.{Quiet, Holds}
 use Rattle.runs.specs.Shrunk.{around, shrunk}
+use Rattle.runs.specs.VisitKept.{withVisit}
 use Rattle.runs.specs.LifeKept.{free-again}
-use Rattle.runs.specs.Store.{leftView}
+use Rattle.runs.specs.Store.{leftView, noted-same}
 
 -- the view once the clock of site a has moved
 abbrev pub moved : View → ℕ → ℕ → View
@@ -67,6 +73,18 @@ visit-back w a k c passage v m l e h =
     (sym (put-back (w .visit) a v e))
     h
 
+-- a visit that stays is no news
+pub stay-kept :
+    (w : View) (l : Ledger) (a source : ℕ) → Holds w l
+    → Holds (withVisit w a (w .visit a)) (noted l a source (w .visit a))
+stay-kept w l a source h =
+    rw
+    (noted-same w l a source h)
+    (subst
+    (λ (v : ℕ → Visit). Holds (record { passage = w .passage; visit = v; clock = w .clock; mail = w .mail }) l)
+    (sym (put-back (w .visit) a (w .visit a) refl))
+    h)
+
 -- a visit that goes: its release time has come, or the passage is quiet
 pub went-kept :
     (w : View) (l : Ledger) (a : ℕ) (v : Visit) → Holds w l → v .there ≡ false
@@ -101,3 +119,10 @@ went-kept w l a v h e went =
 
 pub not-free : (s : Status) → isFree s ≡ false → s ≢ Status.Free
 not-free s e y = true≢false (sym (ap isFree y) ∙ e)
+
+-- the round of the passage that a step looks at has a kind that fits its phase
+pub phase-fits :
+    (t : Tables) (look : Look) → inRange t ≡ true
+    → phaseFits (passageAt t (placesOf t look .slot) .round .kind) (passageAt t (placesOf t look .slot) .round .phase) ≡ true
+phase-fits t look range =
+    seen-says (seenOf t (placesOf t look)) (seen-in-range t (placesOf t look) range (placed-places t look)) .passage .round .phase

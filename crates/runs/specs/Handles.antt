@@ -24,13 +24,14 @@ use Rattle.rules.specs.Calls.{atHome, invokeOf, emptyOf, deliverCallOf, deliver
 use Rattle.rules.specs.Machine.{lookOf, placesOf, seenOf, remains, decideOf, stored, headOf, slotPlaces, sweepTurn, crashTurn, turnOf, turnsUpTo, turnCount, stepInRangeOf, stepOf}
 use Rattle.rules.specs.StoredLaws.{Sized, Placed, passage-after-stored, passage-after-stored-other}
 use Rattle.rules.specs.RangesLaws.{placed-places, placed-slots}
+use Rattle.rules.specs.RangesKept.{turn-count-most}
 use Rattle.rules.specs.RefusedLaws.{refused-leaves}
 use Rattle.rules.specs.Runs.{Entry, runOf, entryOf, entriesOf, historyOf}
 use Rattle.runs.specs.Types.{Passage, Body, Tables, Step, Places, Seen, Outcome}
 use Rattle.runs.specs.Put.{same-or-other}
-use Rattle.runs.specs.Steps.{head-accepted, turn-count-most, run-on}
+use Rattle.runs.specs.Steps.{head-accepted, run-on}
 use Rattle.runs.specs.Sizes.{sized-start, sized-run, sized-step, sized-head, sized-turn}
-use Rattle.runs.specs.Ledgers.{repeat-has}
+use Rattle.runs.specs.Plain.{repeat-has}
 use Rattle.runs.specs.Orphans.{retires}
 
 -- ---- definitions

@@ -25,10 +25,11 @@ use Rattle.rules.specs.Calls.{mailSlot, calledObject, called, invokeOf, emptyOf
 use Rattle.rules.specs.Machine.{lookOf, placesOf, seenOf, bodyBank, decideOf, stored, headOf, slotPlaces, sweepTurn, crashTurn, turnOf, turnsUpTo, turnCount, stepInRangeOf, stepOf}
 use Rattle.rules.specs.StoredLaws.{Sized, Placed, visit-after-stored}
 use Rattle.rules.specs.RangesLaws.{cond-keeps, placed-places, placed-slots}
+use Rattle.rules.specs.RangesKept.{turn-count-most}
 use Rattle.rules.specs.Runs.{runOf}
 use Rattle.runs.specs.Types.{Visit, Call, Told, Body, Tables, Step, Places, Seen, Outcome}
 use Rattle.runs.specs.Put.{same-or-other}
-use Rattle.runs.specs.Steps.{turn-count-most, run-on}
+use Rattle.runs.specs.Steps.{run-on}
 use Rattle.runs.specs.Sizes.{sized-run, sized-step, sized-head, sized-turn}
 use Rattle.runs.specs.Banks.{seen-object, object-after-stored, object-after-stored-other, each-at}
 use Rattle.runs.specs.Promised.{Promised, isWord, stored-has, promised-stays}

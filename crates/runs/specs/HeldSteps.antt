@@ -25,6 +25,7 @@ use Rattle.rules.specs.Passages.{beginOf, abortOf, retired, retireOf}
 use Rattle.rules.specs.Machine.{seenOf, bodyBank}
 use Rattle.rules.specs.RangesLaws.{set-keeps-at}
 use Rattle.runs.specs.Types.{Site, Kind, Visit, Call, Asked, Told, Body, Message, Tables, Places, Seen}
+use Rattle.runs.specs.TimesKept.{asked-says}
 use Rattle.runs.specs.Banks.{let-go-holder, taken-holder, each-at}
 use Rattle.runs.specs.HeldStore.{GoesHome, Held, Keeps}
 
@@ -37,11 +38,6 @@ isCall (Body.Answer n r q) = false
 
 pub no-call : (m : Message) → isCall (m .body) ≡ false → (c : Call) → m .body ≡ Body.Call c → GoesHome m c
 no-call m f c e = absurd (true≢false (sym (ap isCall e) ∙ f))
-
-asked-there : (a : Asked) (n clock : ℕ) (v : Visit) → askedVisit a n clock v .there ≡ v .there
-asked-there (Asked.Refresh r) n clock v = refl
-asked-there Asked.Terminate n clock v = refl
-asked-there Asked.Prepare n clock v = refl
 
 -- where a rule changes a visit that is there, it stays there
 changed-there : (v changed : Visit) → changed .there ≡ v .there → whereThere v changed .there ≡ v .there
@@ -226,7 +222,7 @@ module _ (t : Tables) (at : Places) (k : Held t) where
   pub open-keeps : (h : ℕ) (kind : Kind) (bad wrong : Bool) → Keeps t at (openOf h kind bad wrong (seenOf t at) .left)
   unfolding openOf
   open-keeps h kind bad wrong =
-      settled-keeps _ _ _ (λ f. stays _ refl (λ e. sym (asked-there (askedOf kind) _ _ _) ∙ e) call-stays)
+      settled-keeps _ _ _ (λ f. stays _ refl (λ e. sym (asked-says (askedOf kind) _ _ _ .there) ∙ e) call-stays)
 
   pub abort-keeps : (h : ℕ) → Keeps t at (abortOf h (seenOf t at) .left)
   unfolding abortOf
@@ -244,7 +240,7 @@ module _ (t : Tables) (at : Places) (k : Held t) where
       stays
       (askedAt n asked clock (seenOf t at))
       refl
-      (λ e. sym (asked-there asked n clock v) ∙ e)
+      (λ e. sym (asked-says asked n clock v .there) ∙ e)
       (no-call (replyOf (askedVisit asked n clock v) clock (seenOf t at)) (reply-no-call (askedVisit asked n clock v) clock (seenOf t at)))
 
   -- by what the message slot holds

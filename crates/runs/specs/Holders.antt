@@ -1,10 +1,9 @@
 -- In every run the passage that holds an object has a visit at the object's site, and every call in a message slot goes to its object's site.
 -- Assumes nothing.
-use Prim.Native.Nat.{ℕ, zero, suc, _<_}
+use Prim.Native.Nat.{ℕ, _<_}
 use mathlib.Core.Path.{_≡_, refl}
 use mathlib.Core.Bool.{Bool, true}
 use mathlib.Core.List.{List}
-use lib.ListN.{getD, replicate}
 use Rattle.rules.specs.declared.tables.Holder.{Holder}
 use Rattle.rules.specs.declared.tables.Object.{Object}
 use Rattle.rules.specs.declared.answers.Trip.{Trip}
@@ -15,6 +14,7 @@ use Rattle.rules.specs.Machine.{lookOf, placesOf, seenOf, decideOf, headOf, slo
 use Rattle.rules.specs.RangesLaws.{placed-places, placed-slots}
 use Rattle.rules.specs.Runs.{runOf}
 use Rattle.runs.specs.Types.{Call, Body, Message, Tables, Step, Outcome}
+use Rattle.runs.specs.Plain.{repeat-has}
 use Rattle.runs.specs.Sizes.{step-holds, run-holds, sized-start}
 use Rattle.runs.specs.Banks.{nobody-holds}
 use Rattle.runs.specs.HeldStore.{GoesHome, Held, Keeps, held-stored}
@@ -57,11 +57,6 @@ held-turn (Trip.Crash site) slot o l k =
 
 -- ---- the start, and every run
 
-replicate-at : {A : Type 0} (P : A → Type 0) (n : ℕ) (x d : A) → P x → P d → (i : ℕ) → P (getD (replicate n x) i d)
-replicate-at P zero x d p q i = q
-replicate-at P (suc n) x d p q zero = p
-replicate-at P (suc n) x d p q (suc i) = replicate-at P n x d p q i
-
 -- nothing is held, and there is no message
 pub held-start : Held start
 unfolding start
@@ -71,10 +66,10 @@ held-start =
       visits =
           λ j p l e.
           absurd
-          (replicate-at (λ (o : Object). o .holder ≡ Holder.Slot p → ⊥) 32 noObject pastObject (nobody-holds p) (nobody-holds p) j e);
+          (repeat-has (λ (o : Object). o .holder ≡ Holder.Slot p → ⊥) 32 noObject pastObject (nobody-holds p) (nobody-holds p) j e);
       calls =
           λ m c.
-          replicate-at
+          repeat-has
           (λ (x : Message). x .body ≡ Body.Call c → GoesHome x c)
           32
           noMessage

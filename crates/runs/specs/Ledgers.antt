@@ -1,12 +1,12 @@
 -- The ledgers along a run, and the invariant of every slot in every run. Assumes nothing.
-use Prim.Native.Nat.{ℕ, zero, suc, _<_}
+use Prim.Native.Nat.{ℕ, _<_}
 use native.Mathlib.Omega.{arith}
 use mathlib.Core.Path.{_≡_, refl, ap}
 use mathlib.Core.Bool.{true, false, not, _||_}
 use mathlib.Core.List.{List}
-use lib.ListN.{getD, replicate, getD-replicate}
+use lib.ListN.{getD-replicate}
 use Rattle.rules.specs.Tables.{start, passageAt, visitPlace, pastPassage, pastVisit, pastMessage, noVisit, noMessage, freeSlot}
-use Rattle.rules.specs.Answers.{isAccepted, settleOf}
+use Rattle.rules.specs.Answers.{isAccepted}
 use Rattle.rules.specs.AnswersLaws.{accepted-fine}
 use Rattle.rules.specs.Ranges.{inRange}
 use Rattle.rules.specs.RangesLaws.{placed-places, placed-slots, seen-in-range, stored-in-range}
@@ -20,12 +20,13 @@ use Rattle.rules.specs.Rounds.{refreshOf, terminateOf, prepareOf, openOf, openD
 use Rattle.rules.specs.Calls.{invokeOf, invokeDone, dropOf, dropDone}
 use Rattle.rules.specs.Machine.{lookOf, placesOf, seenOf, remains, decideOf, headOf, slotPlaces, sweepTurn, crashTurn, turnOf}
 use Rattle.rules.specs.Runs.{runOf}
-use Rattle.runs.specs.Types.{Kind, Passage, Body, Tables, Step, Places, Seen, Decision, Outcome}
+use Rattle.runs.specs.Types.{Kind, Passage, Body, Tables, Step, Places, Seen, Outcome}
 use Rattle.rules.specs.declared.answers.Trip.{Trip}
+use Rattle.runs.specs.Plain.{repeat-has}
 use Rattle.runs.specs.View.{Ledger, mailOf, viewOf, noLedger}
 use Rattle.runs.specs.Clauses.{Holds}
 use Rattle.runs.specs.LifeKept.{free-kept}
-use Rattle.runs.specs.Store.{nextLedgers, Fitting, fitting-kept}
+use Rattle.runs.specs.Store.{nextLedgers, Fitting, settled-fits, fitting-kept}
 use Rattle.runs.specs.StationFits.{site-fits, lost-fits, swept-fits, crashed-fits}
 use Rattle.runs.specs.LifeFits.{begin-fits, abort-fits, retire-fits}
 use Rattle.runs.specs.OpenFits.{refresh-fits, terminate-fits, prepare-fits}
@@ -71,12 +72,6 @@ pub record Kept (t : Tables) (ls : ℕ → Ledger) : Type 0 where
   pub slots : (p : ℕ) → p < 16 → Holds (viewOf t p) (ls p)
 
 -- ---- every accepted step's own store fits
-
--- an accepted decision leaves what it decided
-settled-fits :
-    (t : Tables) (at : Places) (d : Decision) → isAccepted (d .answer) ≡ true → Fitting t at (d .left)
-    → Fitting t at (settleOf d (seenOf t at) .left)
-settled-fits t at d e x = rw e x
 
 -- a message is dropped by the slot that its handle names
 dropped-fits : (t : Tables) (m : ℕ) → Fitting t (placesOf t (lookOf (Step.Drop m))) (dropDone m (seenOf t (placesOf t (lookOf (Step.Drop m)))) .left)
@@ -208,14 +203,6 @@ turn-kept (Trip.Crash site) slot o ls i k =
     }
 
 -- ---- and holds at the start
-
--- every place of a repeated record holds it, and so does a place past the end, if what stands there is as good
-pub repeat-has :
-    {A : Type 0} (P : A → Type 0) (n : ℕ) (x d : A) → P x → P d → (i : ℕ) → P (getD (replicate n x) i d)
-repeat-has P zero x d h k zero = k
-repeat-has P zero x d h k (suc i) = k
-repeat-has P (suc n) x d h k zero = h
-repeat-has P (suc n) x d h k (suc i) = repeat-has P n x d h k i
 
 start-kept : Kept start (λ p. noLedger)
 unfolding start

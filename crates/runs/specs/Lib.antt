@@ -1,9 +1,11 @@
 -- Theorems over runs: what holds of the tables after every list of steps or records from the start.
--- What one slot sees, the ledger kept of it, and the clauses of the invariant.
+-- What one slot sees, the ledger kept of it, and the clauses of the invariant, with their laws.
 pub mod Types
+pub mod Plain
 pub mod Put
 pub mod View
 pub mod Clauses
+pub mod ClausesLaws
 -- Changes that keep the clauses: the frame law, a visit's times, its calls, messages, the round, a passage's life.
 pub mod Masks
 pub mod Same

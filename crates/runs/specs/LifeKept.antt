@@ -2,13 +2,13 @@
 use Prim.Native.Nat.{ℕ, zero, suc, _<_, _≤_}
 use native.Mathlib.Omega.{arith}
 use mathlib.Core.Path.{_≡_, refl, sym, ap, _∙_}
-use mathlib.Core.Logic.{_≢_, ⊎-elim, _⊎_}
-use mathlib.Core.Bool.{Bool, true, false, true≢false, false≢true}
+use mathlib.Core.Logic.{⊎-elim}
+use mathlib.Core.Bool.{true, false, true≢false, false≢true}
 use Rattle.rules.specs.Loops.{sumUpTo}
 use Rattle.rules.specs.Tables.{noRound}
-use Rattle.rules.specs.Parts.{isFree, isEmpty, isPhaseTwo, newVisit}
+use Rattle.rules.specs.Parts.{isFree, isEmpty, isPhaseOne, isPhaseTwo, newVisit}
 use Rattle.rules.specs.Passages.{begunPassage}
-use Rattle.runs.specs.Types.{Phase, Round, Status, Visit, Body}
+use Rattle.runs.specs.Types.{Round, Status, Visit, Body}
 use Rattle.runs.specs.Put.{put, put-same, put-other, put-all, same-or-other}
 use Rattle.runs.specs.View.{View, Ledger, noLedger, firstSeen}
 use Rattle.runs.specs.Clauses.{isRefresh, Below, SiteFine, PassageFine, callsTo, receivedBy, Holds}
@@ -35,20 +35,12 @@ fresh-passage w l i e =
       figures = rw e refl;
       kept =
           λ v j y. absurd (true≢false (sym y ∙ nobody-answers (w .passage .round) v (ap (λ (r : Round). r .answered) e) j));
-      home-answers = λ y. absurd (no-one (sym (ap (λ (r : Round). r .phase) e) ∙ y));
+      home-answers = λ y. absurd (false≢true (ap isPhaseOne (sym (ap (λ (r : Round). r .phase) e) ∙ y)));
       refresh-one = λ q r y. absurd (false≢true (ap isRefresh (sym (ap (λ (r : Round). r .kind) e) ∙ y)));
       refresh-two = λ q r y k. absurd (false≢true (ap isPhaseTwo (sym (ap (λ (r : Round). r .phase) e) ∙ y)));
       closed-quiet = λ y b. absurd (false≢true (ap isPhaseTwo (sym (ap (λ (r : Round). r .phase) e) ∙ y)));
       terminate-aborted = λ y n. absurd (n (ap (λ (r : Round). r .phase) e));
     }
-  where
-    isNone : Phase → Bool
-    isNone Phase.None = true
-    isNone Phase.One = false
-    isNone Phase.Two = false
-
-    no-one : Phase.None ≡ Phase.One → ⊥
-    no-one y = true≢false (ap isNone y)
 
 -- ---- a free slot: nothing of it anywhere, and an empty ledger
 

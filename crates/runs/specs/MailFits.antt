@@ -12,15 +12,14 @@ use Rattle.rules.specs.Checks.{badHandle}
 use Rattle.rules.specs.Parts.{isFree, isEmpty, isPhaseOne, isPhaseTwo, hasAnswered, plainMessage}
 use Rattle.rules.specs.Rounds.{askChecks, sentOut, askDone, tellChecks, tellDone}
 use Rattle.rules.specs.Machine.{lookOf, placesOf, seenOf}
-use Rattle.rules.specs.RangesLaws.{placed-places, seen-in-range}
+use Rattle.rules.specs.RangesLaws.{placed-places}
 use Rattle.rules.specs.Ranges.{inRange, phaseFits}
-use Rattle.rules.specs.RangesFits.{seen-says}
 use Rattle.runs.specs.Types.{Kind, Phase, Body, Tables, Step, Places}
 use Rattle.runs.specs.View.{Ledger, viewOf}
 use Rattle.runs.specs.Clauses.{Holds}
 use Rattle.runs.specs.MailKept.{withMail, ask-kept, tell-kept}
 use Rattle.runs.specs.Store.{own-mail, Fitting, noted-same}
-use Rattle.runs.specs.Fits.{moved, moved-kept, news-kept, visit-back, not-free}
+use Rattle.runs.specs.Fits.{moved, moved-kept, news-kept, visit-back, not-free, phase-fits}
 use Rattle.runs.specs.LifeFits.{site-says}
 
 -- the slot was empty, and the message is of the passage
@@ -133,7 +132,7 @@ tell-fits t h site place range (bad, (there, (down, (wrong, (full, (taken, rest)
     (eqb-false _ _ (or-right (not (isPhaseTwo (passageAt t (h % 16) .round .phase)) || not (hasAnswered (passageAt t (h % 16) .round) (site % 8))) _ wrong))
     two
     (subst (λ (x : ℕ). hasAnswered (passageAt t (h % 16) .round) x ≡ true) s%8 answered)
-    (two-kind _ _ fits two))
+    (two-kind _ _ (phase-fits t (lookOf (Step.Tell h site)) range) two))
   where
     s<8 : site < 8
     s<8 = site-says site (or-right (badHandle h) _ bad)
@@ -160,12 +159,3 @@ tell-fits t h site place range (bad, (there, (down, (wrong, (full, (taken, rest)
         (not (isPhaseTwo (passageAt t (h % 16) .round .phase)))
         _
         (or-left (not (isPhaseTwo (passageAt t (h % 16) .round .phase)) || not (hasAnswered (passageAt t (h % 16) .round) (site % 8))) _ wrong))
-
-    fits : phaseFits (passageAt t (h % 16) .round .kind) (passageAt t (h % 16) .round .phase) ≡ true
-    fits =
-        seen-says
-        (seenOf t (placesOf t (lookOf (Step.Tell h site))))
-        (seen-in-range t (placesOf t (lookOf (Step.Tell h site))) range (placed-places t (lookOf (Step.Tell h site))))
-        .passage
-        .round
-        .phase

@@ -3,8 +3,8 @@ use Prim.Native.Nat.{ℕ, _+_, _<_, _≤_}
 use native.Mathlib.Omega.{arith}
 use mathlib.Core.Path.{_≡_, refl, sym, ap, _∙_}
 use mathlib.Core.Logic.{_≢_, ⊎-elim, _⊎_, inl, inr}
-use mathlib.Core.Bool.{Bool, true, false, true≢false, false≢true}
-use Rattle.rules.specs.Parts.{isOver, isPhaseTwo, figuresOf, hasAnswered, withAnswer, openedRound, askedOf, askedVisit, askedStatus, withPhase}
+use mathlib.Core.Bool.{true, false, true≢false, false≢true}
+use Rattle.rules.specs.Parts.{isOver, isPhaseOne, isPhaseTwo, figuresOf, hasAnswered, withAnswer, openedRound, askedOf, askedVisit, askedStatus, withPhase}
 use Rattle.rules.specs.Rounds.{openedPassage}
 use Rattle.runs.specs.Types.{Figures, Kind, Phase, Status, Visit, Call, Told, Body, Message}
 use Rattle.runs.specs.Put.{put, put-same}
@@ -157,7 +157,7 @@ module _ (w : View) (l : Ledger) (status : Status) (kind : Kind) (h : Holds w l)
               mask = omega arith;
               figures = refl;
               kept = λ v i e. absurd (new-kept v i e);
-              home-answers = λ e. absurd (not-one e);
+              home-answers = λ e. absurd (false≢true (ap isPhaseOne e));
               refresh-one = times;
               refresh-two = λ q r e k. absurd (false≢true (ap isPhaseTwo e));
               closed-quiet = λ e b. absurd (false≢true (ap isPhaseTwo e));
@@ -165,14 +165,6 @@ module _ (w : View) (l : Ledger) (status : Status) (kind : Kind) (h : Holds w l)
             };
         balance = h .balance;
       }
-    where
-      isNone : Phase → Bool
-      isNone Phase.None = true
-      isNone Phase.One = false
-      isNone Phase.Two = false
-
-      not-one : Phase.None ≡ Phase.One → ⊥
-      not-one e = true≢false (ap isNone e)
 
 -- ---- the whole opening
 

@@ -6,15 +6,10 @@ use mathlib.Core.List.{List, [], _∷_, _++_}
 use Rattle.rules.specs.Tables.{start}
 use Rattle.rules.specs.Record.{stepRecordOf}
 use Rattle.rules.specs.Runs.{runRecordsOf}
-use Rattle.rules.specs.Sheet.{recordAt}
+use Rattle.rules.specs.Sheet.{recordAt, recordsUpTo}
 use Rattle.rules.specs.Listing.{printedUpTo}
 use Rattle.runs.specs.Types.{Tables}
 use Rattle.runs.specs.TimeRule.{TimeRule, time-rule-records}
-
--- the first n records of a part
-unfoldable pub recordsUpTo : List ℕ → ℕ → List (List ℕ)
-recordsUpTo part zero = []
-recordsUpTo part (suc n) = recordsUpTo part n ++ (recordAt part n ∷ [])
 
 -- one more record at the end of a run
 run-one-more :

@@ -14,7 +14,7 @@ use Rattle.rules.specs.LoopsLaws.{either}
 use Rattle.rules.specs.Tables.{start, passageAt, visitAt, messageAt, slotOf}
 use Rattle.rules.specs.Ranges.{inRange}
 use Rattle.rules.specs.Answers.{isAccepted, firstOf, settleOf}
-use Rattle.rules.specs.Parts.{whereThere, askedVisit, toldOf, toldVisit}
+use Rattle.rules.specs.Parts.{whereThere, toldOf, toldVisit}
 use Rattle.rules.specs.Stations.{tickOf, sweepOf, sweptSlot, crashOf, losesHome, crashedSlot, recoverOf}
 use Rattle.rules.specs.Passages.{beginOf, abortOf, retireOf}
 use Rattle.rules.specs.Rounds.{openOf, refreshOf, terminateOf, prepareOf, askOf, closeOf, tellOf}
@@ -22,11 +22,12 @@ use Rattle.rules.specs.Calls.{invokeOf, emptyOf, deliverCallOf, deliverPhaseOne
 use Rattle.rules.specs.Machine.{lookOf, placesOf, seenOf, decideOf, stored, headOf, slotPlaces, sweepTurn, crashTurn, turnOf, turnsUpTo, turnCount, stepInRangeOf, stepOf}
 use Rattle.rules.specs.StoredLaws.{Sized, Placed, visit-place-same, visit-after-stored, visit-after-stored-other}
 use Rattle.rules.specs.RangesLaws.{cond-keeps, placed-places, placed-slots}
+use Rattle.rules.specs.RangesKept.{turn-count-most}
 use Rattle.rules.specs.RefusedLaws.{refused-leaves}
 use Rattle.rules.specs.Runs.{runOf}
-use Rattle.runs.specs.Types.{Kind, Visit, Asked, Told, Body, Tables, Step, Places, Seen, Outcome}
+use Rattle.runs.specs.Types.{Kind, Visit, Told, Body, Tables, Step, Places, Seen, Outcome}
 use Rattle.runs.specs.Put.{same-or-other}
-use Rattle.runs.specs.Steps.{turn-count-most}
+use Rattle.runs.specs.TimesKept.{asked-says}
 use Rattle.runs.specs.Rests.{isPrepare, carriesCommit}
 use Rattle.runs.specs.Sizes.{sized-run, sized-head, sized-turn}
 
@@ -87,11 +88,6 @@ settled-firm trip cs v seen left = cond-keeps (λ (x : Seen). Firm trip (x .visi
 changed-there : (v changed : Visit) → v .there ≡ true → changed .there ≡ true → whereThere v changed .there ≡ true
 changed-there v changed e f = rw e f
 
-asked-there : (a : Asked) (n clock : ℕ) (v : Visit) → v .there ≡ true → askedVisit a n clock v .there ≡ true
-asked-there (Asked.Refresh r) n clock v e = e
-asked-there Asked.Terminate n clock v e = e
-asked-there Asked.Prepare n clock v e = e
-
 -- phase 2 of a round that is no commit round leaves the visit there
 closed-there : (k : Kind) (m : ℕ) (v : Visit) → v .there ≡ true → isPrepare k ≡ false → toldVisit (toldOf k m) v .there ≡ true
 closed-there Kind.None m v e f = e
@@ -107,7 +103,7 @@ delivered-there Body.Empty m seen e f = settled-firm Trip.Nowhere _ _ seen seen 
 delivered-there (Body.Call c) m seen e f =
     settled-firm Trip.Nowhere _ _ seen _ (cond-keeps (λ (v : Visit). v .there ≡ true) (seen .visit .there) (seen .visit) _ e refl) e
 delivered-there (Body.PhaseOne n a) m seen e f =
-    settled-firm Trip.Nowhere _ _ seen _ (asked-there a n _ (seen .visit) e) e
+    settled-firm Trip.Nowhere _ _ seen _ (asked-says a n _ (seen .visit) .there ∙ e) e
 delivered-there (Body.PhaseTwo n (Told.Refresh q)) m seen e f = settled-firm Trip.Nowhere _ _ seen _ e e
 delivered-there (Body.PhaseTwo n (Told.Terminate x)) m seen e f = settled-firm Trip.Nowhere _ _ seen _ e e
 delivered-there (Body.PhaseTwo n Told.Prepare) m seen e f = absurd (true≢false f)

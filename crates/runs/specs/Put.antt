@@ -1,7 +1,7 @@
 -- A function over places with one place changed. Assumes nothing.
 use Prim.Native.Nat.{ℕ, _+_, _<_, zero, suc}
 use native.Mathlib.Omega.{arith}
-use native.Mathlib.Nat.{not-suc-le-zero}
+use native.Mathlib.Nat.{not-suc-le-zero, ne-of-lt}
 use mathlib.Core.Path.{_≡_, refl, sym, _∙_}
 use mathlib.Core.Logic.{_≢_, ⊎-elim, _⊎_, inl, inr}
 use mathlib.Core.Bool.{cond}
@@ -68,13 +68,10 @@ sum-put f a x (suc n) h =
     ⊎-elim
     (λ l.
     let m : sumUpTo (put f a x) n + f a ≡ sumUpTo f n + x = sum-put f a x n l in
-    let o : put f a x n ≡ f n = put-other f a x n (λ e. ne a n l (sym e)) in
+    let o : put f a x n ≡ f n = put-other f a x n (λ e. ne-of-lt l (sym e)) in
     rw o (omega arith))
     (λ q.
     let o : sumUpTo (put f a x) n ≡ sumUpTo f n =
-    sum-same (put f a x) f n (λ i l. put-other f a x i (λ e. ne i a (rw q l) e)) in
+    sum-same (put f a x) f n (λ i l. put-other f a x i (ne-of-lt (rw q l))) in
     rw (o, ← q, put-same f a x) (omega arith))
     (below-or-last a n h)
-  where
-    ne : (i j : ℕ) → i < j → i ≢ j
-    ne i j l e = let k : i ≡ j = e in absurd (omega arith)

@@ -14,6 +14,7 @@ use Rattle.rules.specs.LoopsLaws.{either}
 use Rattle.rules.specs.Tables.{pastObject, objectAt, bankAt, objectSite, slotOf}
 use Rattle.rules.specs.Ranges.{inRange}
 use Rattle.rules.specs.RangesLaws.{cond-keeps, placed-places, placed-slots}
+use Rattle.rules.specs.RangesKept.{turn-count-most}
 use Rattle.rules.specs.Answers.{isAccepted, firstOf, settleOf}
 use Rattle.rules.specs.Parts.{nextClock, freed, restored, largestQuiesce, toldObjects, toldOf}
 use Rattle.rules.specs.Stations.{tickOf, sweepOf, crashOf, recoverOf, isSwept, sweptSlot, crashedSlot}
@@ -25,7 +26,6 @@ use Rattle.rules.specs.StoredLaws.{Sized, Placed}
 use Rattle.runs.specs.Types.{Kind, Call, Told, Body, Tables, Step, Outcome, Places, Seen}
 use Rattle.runs.specs.Put.{same-or-other}
 use Rattle.runs.specs.Banks.{seen-object, object-after-stored, object-after-stored-other, each-at}
-use Rattle.runs.specs.Steps.{turn-count-most}
 use Rattle.runs.specs.Sizes.{sized-head, sized-turn}
 use Rattle.runs.specs.Ledgers.{seenAt}
 use Rattle.runs.specs.Rests.{isPrepare, tellsPrepare, carriesCommit, commits, Stands, Turned, stands-after-turned, standing-after-call, stands-after-freed, standing-after-restored, unheld-after-restored, set-at}

@@ -3,12 +3,12 @@ use Prim.Native.Nat.{ℕ, _<_, _≤_}
 use native.Mathlib.Omega.{arith}
 use mathlib.Core.Path.{_≡_, refl, sym, ap, _∙_}
 use mathlib.Core.Logic.{_≢_, ⊎-elim, _⊎_, inl, inr}
-use mathlib.Core.Bool.{Bool, true, false, false≢true}
+use mathlib.Core.Bool.{true, false≢true}
 use mathlib.Core.List.{List}
 use lib.ListN.{length, getD, length-set}
 use lib.Seq.{getD-set-same, getD-set-other}
 use Rattle.rules.specs.Tables.{pastFigures}
-use Rattle.rules.specs.Parts.{isFree, isOver, isPhaseTwo, withPhase, figuresAt, hasAnswered, withAnswer, largestQuiesce}
+use Rattle.rules.specs.Parts.{isFree, isOver, isPhaseOne, isPhaseTwo, withPhase, figuresAt, hasAnswered, withAnswer, largestQuiesce}
 use Rattle.runs.specs.Types.{Figures, Kind, Phase, Status}
 use Rattle.runs.specs.Put.{same-or-other}
 use Rattle.runs.specs.View.{View, Ledger}
@@ -180,25 +180,11 @@ aborted-kept w l h =
     h
     (λ e. false≢true (ap isFree e))
     (λ e. refl)
-    (λ e. absurd (none-one e))
-    (λ q r e. absurd (none-two e))
-    (λ e. absurd (none-two e))
-    (λ s y e. absurd (none-two e))
+    (λ e. absurd (false≢true (ap isPhaseOne e)))
+    (λ q r e. absurd (false≢true (ap isPhaseTwo e)))
+    (λ e. absurd (false≢true (ap isPhaseTwo e)))
+    (λ s y e. absurd (false≢true (ap isPhaseTwo e)))
     (λ k n. refl)
-  where
-    none-two : Phase.None ≡ Phase.Two → ⊥
-    none-two e = false≢true (ap isPhaseTwo e)
-
-    none-one : Phase.None ≡ Phase.One → ⊥
-    none-one e = n e
-      where
-        isOne : Phase → Bool
-        isOne Phase.None = false
-        isOne Phase.One = true
-        isOne Phase.Two = false
-
-        n : Phase.None ≡ Phase.One → ⊥
-        n y = false≢true (ap isOne y)
 
 -- ---- an answer is kept: figures of site s that fit, in a round that is not in phase 2
 

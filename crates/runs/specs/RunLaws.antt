@@ -1,6 +1,6 @@
 -- What holds of a passage in every run, by name, for theorems to come: its times, what is gone, what a closed round means. Assumes nothing.
 use Prim.Native.Nat.{ℕ, _<_, _≤_}
-use mathlib.Core.Path.{_≡_, sym, ap, _∙_, subst}
+use mathlib.Core.Path.{_≡_, refl, sym, ap, _∙_, subst}
 use mathlib.Core.Logic.{_≢_, _⊎_}
 use mathlib.Core.Bool.{true, false, true≢false}
 use mathlib.Core.List.{List}
@@ -10,8 +10,8 @@ use Rattle.rules.specs.Runs.{runOf}
 use Rattle.runs.specs.Types.{Phase, Status, Call, Body, Message, Tables, Step}
 use Rattle.runs.specs.View.{Ledger, viewOf}
 use Rattle.runs.specs.Clauses.{isRefresh, isBinding, Below, QuietMail, Quiet, Holds}
-use Rattle.runs.specs.TimesKept.{call-says}
-use Rattle.runs.specs.Store.{own-mail}
+use Rattle.runs.specs.ClausesLaws.{call-says}
+use Rattle.runs.specs.Store.{own-mail, own-body}
 use Rattle.runs.specs.Closing.{closing-refresh, closing-binding}
 use Rattle.runs.specs.CallsKept.{never-twice}
 use Rattle.runs.specs.Ledgers.{ledgersOf, kept-run}
@@ -32,7 +32,7 @@ module _ (ss : List Step) (p : ℕ) (slot : p < 16) where
   mine m c e h = own-mail p (messageAt Left m) (ap isEmpty e) h
 
   mine-body : (m : ℕ) (c : Call) → messageAt Left m .body ≡ Body.Call c → slotOf (messageAt Left m .handle) ≡ p → viewOf Left p .mail m .body ≡ Body.Call c
-  mine-body m c e h = ap (λ (x : Message). x .body) (mine m c e h) ∙ e
+  mine-body m c e h = own-body p (messageAt Left m) (Body.Call c) e refl h
 
   -- ---- times: every quiesce time of the passage, in a visit that was ever there or in a call in flight,
   -- is at most every release time, in a visit that was ever there or in a call to a site that has seen none

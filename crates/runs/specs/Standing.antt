@@ -3,7 +3,7 @@ use Prim.Native.Nat.{ℕ, zero, suc, _%_, _≤_, _<_}
 use native.Mathlib.Omega.{arith}
 use mathlib.Core.Path.{_≡_, refl, sym, _∙_, subst, subst₂}
 use mathlib.Core.Logic.{⊎-elim}
-use mathlib.Core.Bool.{Bool, true, false, cond, _&&_, _||_, true≢false, false≢true}
+use mathlib.Core.Bool.{Bool, true, false, cond, _&&_, _||_, true≢false}
 use mathlib.Core.List.{List, [], _∷_, _++_}
 use lib.Dec.{eqb}
 use borrow.Author.Tests.{eq-eqb}
@@ -23,11 +23,13 @@ use Rattle.rules.specs.Calls.{invokeOf, emptyOf, deliverCallOf, deliverPhaseOne
 use Rattle.rules.specs.Machine.{lookOf, placesOf, seenOf, decideOf, stored, headOf, slotPlaces, sweepTurn, crashTurn, turnOf, turnsUpTo, turnCount, stepInRangeOf, stepOf}
 use Rattle.rules.specs.StoredLaws.{Sized, Placed, sized-after-stored, passage-after-stored, passage-after-stored-other}
 use Rattle.rules.specs.RangesLaws.{cond-keeps, placed-places, placed-slots}
+use Rattle.rules.specs.RangesKept.{turn-count-most}
 use Rattle.rules.specs.RefusedLaws.{refused-leaves}
 use Rattle.rules.specs.Runs.{runOf}
-use Rattle.runs.specs.Types.{Kind, Status, Passage, Visit, Asked, Told, Body, Tables, Step, Places, Seen, Outcome}
+use Rattle.runs.specs.Types.{Kind, Passage, Visit, Asked, Told, Body, Tables, Step, Places, Seen, Outcome}
 use Rattle.runs.specs.Put.{same-or-other}
-use Rattle.runs.specs.Steps.{turn-count-most, run-on}
+use Rattle.runs.specs.LifeFits.{free-says}
+use Rattle.runs.specs.Steps.{run-on}
 use Rattle.runs.specs.Sizes.{sized-run, sized-head}
 use Rattle.runs.specs.RunLaws.{free-no-visit}
 use Rattle.runs.specs.Rests.{isPrepare, carriesCommit}
@@ -316,13 +318,6 @@ module _ (s p : ℕ) (slot : p < 16) where
       (either (inRange t))
 
 -- ---- runs
-
-free-says : (x : Status) → isFree x ≡ true → x ≡ Status.Free
-free-says Status.Free e = refl
-free-says Status.Active e = absurd (false≢true e)
-free-says Status.Committing e = absurd (false≢true e)
-free-says Status.Aborted e = absurd (false≢true e)
-free-says Status.Committed e = absurd (false≢true e)
 
 -- what stands of a promise from one moment to another: the visit with its mark, and every object that the passage holds at the site
 pub record StandsFrom (t u : Tables) (site slot : ℕ) : Type 0 where

@@ -2,8 +2,8 @@
 use Prim.Native.Nat.{ℕ, _%_, _≤_}
 use native.Mathlib.Omega.{arith}
 use mathlib.Core.Path.{_≡_, refl, sym, subst}
-use mathlib.Core.Logic.{_≢_, ⊎-elim, _⊎_, inl, inr}
-use mathlib.Core.Bool.{Bool, true, false, cond, not, _&&_, _||_, true≢false, false≢true}
+use mathlib.Core.Logic.{⊎-elim, _⊎_, inl, inr}
+use mathlib.Core.Bool.{Bool, true, false, cond, not, _&&_, _||_}
 use lib.Dec.{eqb}
 use borrow.Author.Tests.{leb-true}
 use Rattle.rules.specs.LoopsLaws.{either, and-left, and-right}
@@ -13,15 +13,16 @@ use Rattle.rules.specs.Stations.{leftSite, isSwept, sweptSlot, losesHome, crash
 use Rattle.rules.specs.Calls.{lost}
 use Rattle.rules.specs.Machine.{seenOf, slotPlaces}
 use Rattle.runs.specs.Types.{Site, Visit, Tables, Places}
-use Rattle.runs.specs.Put.{put, put-same, put-back}
+use Rattle.runs.specs.Plain.{when-true, when-false}
+use Rattle.runs.specs.Put.{put, put-same}
 use Rattle.runs.specs.View.{View, Ledger, mailOf, viewOf, noLedger, noted}
 use Rattle.runs.specs.Clauses.{Holds}
 use Rattle.runs.specs.Shrunk.{around}
 use Rattle.runs.specs.VisitKept.{withVisit}
 use Rattle.runs.specs.TimesKept.{quieted-kept}
 use Rattle.runs.specs.RoundKept.{aborted-kept}
-use Rattle.runs.specs.Store.{leftView, Fitting, idle-kept, noted-there, noted-gone, noted-same}
-use Rattle.runs.specs.Fits.{moved, moved-kept, news-kept, mail-back, went-kept}
+use Rattle.runs.specs.Store.{leftView, Fitting, idle-kept, noted-there, noted-gone}
+use Rattle.runs.specs.Fits.{moved, moved-kept, news-kept, mail-back, stay-kept, went-kept}
 
 -- only the site changes, and its clock does not go back
 pub site-fits :
@@ -164,29 +165,14 @@ quieted-or-stay w l a source b prepared dead h = go b (either (w .visit a .there
     Left v = Holds (withVisit w a v) (noted l a source v)
 
     stay : Left (w .visit a)
-    stay =
-        rw
-        (noted-same w l a source h)
-        (subst
-        (λ (v : ℕ → Visit). Holds (record { passage = w .passage; visit = v; clock = w .clock; mail = w .mail }) l)
-        (sym (put-back (w .visit) a (w .visit a) refl))
-        h)
-
-    there :
-        (d : Bool) (x y : Visit) → d ≡ true → Left x → Left (cond d x y)
-    there true x y e z = z
-    there false x y e z = absurd (false≢true e)
-
-    missing :
-        (d : Bool) (x y : Visit) → d ≡ false → Left y → Left (cond d x y)
-    missing true x y e z = absurd (true≢false e)
-    missing false x y e z = z
+    stay = stay-kept w l a source h
 
     go :
         (c : Bool) → (w .visit a .there ≡ true) ⊎ (w .visit a .there ≡ false)
         → Left (cond (w .visit a .there) (cond c (quieted (w .visit a) (w .clock a) prepared dead) (w .visit a)) (w .visit a))
     go true (inl e) =
-        there
+        when-true
+        Left
         (w .visit a .there)
         (quieted (w .visit a) (w .clock a) prepared dead)
         (w .visit a)
@@ -195,8 +181,8 @@ quieted-or-stay w l a source b prepared dead h = go b (either (w .visit a .there
         (λ (m : Ledger). Holds (withVisit w a (quieted (w .visit a) (w .clock a) prepared dead)) m)
         (sym (noted-there l a source (quieted (w .visit a) (w .clock a) prepared dead) e (h .mirror a e .0)))
         (quieted-kept w l a prepared dead h e))
-    go false (inl e) = there (w .visit a .there) (w .visit a) (w .visit a) e stay
-    go c (inr e) = missing (w .visit a .there) (cond c (quieted (w .visit a) (w .clock a) prepared dead) (w .visit a)) (w .visit a) e stay
+    go false (inl e) = when-true Left (w .visit a .there) (w .visit a) (w .visit a) e stay
+    go c (inr e) = when-false Left (w .visit a .there) (cond c (quieted (w .visit a) (w .clock a) prepared dead) (w .visit a)) (w .visit a) e stay
 
 -- the same once the clock has moved, with a passage that is aborted or stays
 pub struck-kept :

@@ -3,17 +3,18 @@
 use Prim.Native.Nat.{ℕ, zero, suc, _<_, _≤_}
 use native.Mathlib.Omega.{arith}
 use mathlib.Core.Path.{_≡_, refl, sym, ap, _∙_}
-use mathlib.Core.Logic.{⊎-elim, _⊎_}
+use mathlib.Core.Logic.{⊎-elim}
 use mathlib.Core.Bool.{Bool, true, false, cond, false≢true}
 use mathlib.Core.List.{List, [], _∷_, _++_}
 use Rattle.rules.specs.LoopsLaws.{either}
 use Rattle.rules.specs.Answers.{isAccepted}
 use Rattle.rules.specs.Ranges.{inRange}
 use Rattle.rules.specs.Machine.{lookOf, headOf, turnOf, turnsUpTo, turnCount, stepInRangeOf, refusedAll, stepOf}
+use Rattle.rules.specs.RangesKept.{turn-count-most}
 use Rattle.rules.specs.RefusedLaws.{refused-leaves, turns-keep, record-is-step}
 use Rattle.rules.specs.Record.{stepOfRecord, readingOf, recordInRangeOf, stepRecordOf}
 use Rattle.rules.specs.Runs.{runOf, runRecordsOf}
-use Rattle.runs.specs.Types.{Tables, Step, Answer, Outcome}
+use Rattle.runs.specs.Types.{Tables, Step, Outcome}
 use Rattle.rules.specs.declared.answers.Trip.{Trip}
 use Rattle.rules.specs.declared.steps.Reading.{Reading}
 
@@ -46,19 +47,6 @@ module _ {G : Type 0} (head : Tables → Step → G → G) (turn : Trip → ℕ 
   unfoldable pub ghostRun : Tables → List Step → G → G
   ghostRun t [] g = g
   ghostRun t (s ∷ ss) g = ghostRun (stepOf t s .tables) ss (ghostStep t s g)
-
-pub turn-count-most : (trip : Trip) (a : Answer) → turnCount trip a ≤ 16
-turn-count-most Trip.Nowhere a = omega arith
-turn-count-most (Trip.Sweep site) a = most (isAccepted a)
-  where
-    most : (b : Bool) → cond b 16 0 ≤ 16
-    most true = omega arith
-    most false = omega arith
-turn-count-most (Trip.Crash site) a = most (isAccepted a)
-  where
-    most : (b : Bool) → cond b 16 0 ≤ 16
-    most true = omega arith
-    most false = omega arith
 
 -- an accepted step's own store was accepted
 pub head-accepted :

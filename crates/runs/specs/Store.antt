@@ -1,17 +1,21 @@
 -- From tables to views: a step stores one site, one passage, one visit and one message; what each slot then sees. Assumes nothing.
 use Prim.Native.Nat.{ℕ, _<_, _≤_}
 use native.Mathlib.Omega.{arith}
-use mathlib.Core.Path.{_≡_, refl, sym, ap, _∙_}
+use mathlib.Core.Path.{_≡_, refl, sym, ap, _∙_, subst}
 use mathlib.Core.Logic.{_≢_, ⊎-elim, _⊎_, inl, inr}
 use mathlib.Core.Bool.{Bool, true, false, cond, not, _&&_}
 use lib.Dec.{eqb}
 use borrow.Author.Tests.{eq-eqb, ne-eqb}
 use Rattle.rules.specs.Tables.{siteAt, visitAt, messageAt, noMessage, slotOf}
-use Rattle.rules.specs.Parts.{isFree, isEmpty}
+use Rattle.rules.specs.Answers.{isAccepted, settleOf}
+use Rattle.rules.specs.AnswersLaws.{settle-accepted}
+use Rattle.rules.specs.Parts.{isFree, isEmpty, answerMessage}
+use Rattle.rules.specs.Calls.{atHome, replyOf}
 use Rattle.rules.specs.Machine.{seenOf, stored}
 use Rattle.rules.specs.LoopsLaws.{either}
+use Rattle.rules.specs.RangesLaws.{cond-keeps}
 use Rattle.rules.specs.StoredLaws.{Sized, Placed, visit-place-same, site-after-stored, passage-after-stored, visit-after-stored, message-after-stored, site-after-stored-other, passage-after-stored-other, visit-after-stored-other, message-after-stored-other}
-use Rattle.runs.specs.Types.{Site, Status, Passage, Visit, Body, Message, Tables, Places, Seen}
+use Rattle.runs.specs.Types.{Site, Status, Passage, Visit, Body, Message, Tables, Places, Seen, Decision}
 use Rattle.runs.specs.Put.{put, put-same, put-other, put-all, same-or-other, everywhere, put-back}
 use Rattle.runs.specs.View.{View, Past, Ledger, mailOf, viewOf, noLedger, relast, notedPast, noted}
 use Rattle.runs.specs.Clauses.{Quiet, Holds}
@@ -49,6 +53,10 @@ Own p m = (isEmpty (m .body) ≡ true) ⊎ (slotOf (m .handle) ≡ p)
 pub own-mail : (p : ℕ) (m : Message) → isEmpty (m .body) ≡ false → slotOf (m .handle) ≡ p → mailOf p m ≡ m
 own-mail p m b e = rw (b, eq-eqb (slotOf (m .handle)) p e)
 
+pub own-body :
+    (p : ℕ) (m : Message) (b : Body) → m .body ≡ b → isEmpty b ≡ false → slotOf (m .handle) ≡ p → mailOf p m .body ≡ b
+own-body p m b e full h = ap (λ (x : Message). x .body) (own-mail p m (ap isEmpty e ∙ full) h) ∙ e
+
 -- an empty one as empty
 pub empty-mail : (p : ℕ) (m : Message) → isEmpty (m .body) ≡ true → mailOf p m ≡ noMessage
 empty-mail p m e = rw e
@@ -61,6 +69,27 @@ other-mail p q m (inr e) n = hidden (isEmpty (m .body)) (ne-eqb (slotOf (m .hand
     hidden : (b : Bool) → eqb (slotOf (m .handle)) q ≡ false → cond (not b && eqb (slotOf (m .handle)) q) m noMessage ≡ noMessage
     hidden true y = refl
     hidden false y = rw y
+
+-- the answer to a message of slot p, if one goes out, is of p too
+pub reply-own :
+    (p clock : ℕ) (v : Visit) (seen : Seen) → slotOf (seen .message .handle) ≡ p → Own p (replyOf v clock seen)
+reply-own p clock v seen e =
+    cond-keeps
+    (Own p)
+    (atHome seen)
+    noMessage
+    (answerMessage v (seen .message .destination) (seen .passage .home) (seen .message .handle) clock)
+    (inl refl)
+    (inr e)
+
+-- what a step of slot p does to a message slot: nothing, or it was p's or empty and stays so
+abbrev pub OwnChange : ℕ → Message → Message → Type 0
+OwnChange p was left = (left ≡ was) ⊎ (Own p was × Own p left)
+
+-- another slot sees nothing of it
+pub other-still : (p q : ℕ) (was left : Message) → OwnChange p was left → q ≢ p → mailOf q left ≡ mailOf q was
+other-still p q was left (inl e) n = ap (mailOf q) e
+other-still p q was left (inr e) n = other-mail p q left (e .1) n ∙ sym (other-mail p q was (e .0) n)
 
 module _ (t : Tables) (at : Places) (left : Seen) (z : Sized t) (h : Placed at) where
   stored-clock : (s : ℕ) → siteAt (stored t at left) s .clock ≡ put (λ x. siteAt t x .clock) (at .site) (left .site .clock) s
@@ -134,24 +163,21 @@ module _ (t : Tables) (at : Places) (left : Seen) (z : Sized t) (h : Placed at) 
 
 pub record Fitting (t : Tables) (at : Places) (left : Seen) : Type 0 where
   pub clock : siteAt t (at .site) .clock ≤ left .site .clock
-  pub mail :
-      (left .message ≡ messageAt t (at .message))
-      ⊎ (Own (at .slot) (messageAt t (at .message)) × Own (at .slot) (left .message))
+  pub mail : OwnChange (at .slot) (messageAt t (at .message)) (left .message)
   pub own :
       (l : Ledger) → Holds (viewOf t (at .slot)) l
       → Holds
       (leftView (viewOf t (at .slot)) (at .site) (at .message) (left .passage) (left .visit) (left .site .clock) (mailOf (at .slot) (left .message)))
       (nextLedger l (at .site) (seenOf t at) left)
 
+-- an accepted decision leaves what it decided
+pub settled-fits :
+    (t : Tables) (at : Places) (d : Decision) → isAccepted (d .answer) ≡ true → Fitting t at (d .left)
+    → Fitting t at (settleOf d (seenOf t at) .left)
+settled-fits t at d e x = subst (Fitting t at) (sym (settle-accepted d (seenOf t at) e)) x
+
 -- then every slot's invariant is kept: its own by its law, the others' by the frame law
 module _ (t : Tables) (at : Places) (left : Seen) (z : Sized t) (h : Placed at) (x : Fitting t at left) where
-  other-still : (p : ℕ) → p ≢ at .slot → mailOf p (left .message) ≡ mailOf p (messageAt t (at .message))
-  other-still p n =
-      ⊎-elim
-      (λ e. ap (mailOf p) e)
-      (λ e. other-mail (at .slot) p (left .message) (e .1) n ∙ sym (other-mail (at .slot) p (messageAt t (at .message)) (e .0) n))
-      (x .mail)
-
   other-kept : (p : ℕ) (l : Ledger) → p < 16 → p ≢ at .slot → Holds (viewOf t p) l → Holds (viewOf (stored t at left) p) l
   other-kept p l b n k =
       rw
@@ -174,7 +200,7 @@ module _ (t : Tables) (at : Places) (left : Seen) (z : Sized t) (h : Placed at) 
       (at .message)
       (mailOf p (left .message))
       (λ i m. (m ≡ viewOf t p .mail i) ⊎ (m .body ≡ Body.Empty))
-      (inl (other-still p n))
+      (inl (other-still (at .slot) p (messageAt t (at .message)) (left .message) (x .mail) n))
       (λ i e. inl refl))
       (λ s e. refl)
       (λ s y e. inl e)

@@ -1,6 +1,7 @@
 -- A sweep goes through the slots: an unprepared visit whose release time the clock has reached is gone afterwards. Assumes nothing.
 use Prim.Native.Nat.{ℕ, zero, suc, _%_, _<_, _≤_}
 use native.Mathlib.Omega.{arith}
+use native.Mathlib.Nat.{ne-of-lt}
 use mathlib.Core.Path.{_≡_, refl, sym, ap, _∙_, subst}
 use mathlib.Core.Logic.{_≢_, ⊎-elim, _⊎_, inl, inr}
 use mathlib.Core.Bool.{Bool, true, false, cond, false≢true}
@@ -12,6 +13,7 @@ use Rattle.rules.specs.Answers.{isAccepted}
 use Rattle.rules.specs.Ranges.{inRange}
 use Rattle.rules.specs.StoredLaws.{Sized, sized-after-stored, visit-place-same, site-after-stored, visit-after-stored, visit-after-stored-other}
 use Rattle.rules.specs.RangesLaws.{cond-keeps, placed-slots}
+use Rattle.rules.specs.RangesKept.{turn-count-most}
 use Rattle.rules.specs.Stations.{isSwept, sweptSlot}
 use Rattle.rules.specs.Machine.{seenOf, stored, headOf, slotPlaces, sweepTurn, turnsUpTo, turnCount, stepInRangeOf, stepOf}
 use Rattle.rules.specs.declared.answers.Trip.{Trip}
@@ -19,7 +21,7 @@ use Rattle.runs.specs.Types.{Site, Visit, Tables, Step, Outcome, Seen}
 use Rattle.runs.specs.Put.{same-or-other}
 use Rattle.runs.specs.Sizes.{sized-head}
 use Rattle.runs.specs.Clocks.{swept-site}
-use Rattle.runs.specs.Steps.{head-accepted, turn-count-most}
+use Rattle.runs.specs.Steps.{head-accepted}
 
 -- what must hold of a visit for a sweep at this clock to take it
 pub record Ripe (clock : ℕ) (v : Visit) : Type 0 where
@@ -47,9 +49,6 @@ ripe-goes site slot seen r =
     (λ e. rw (ripe-swept seen r e))
     (λ e. cond-keeps (λ (x : Seen). x .visit .there ≡ false) (isSwept seen) _ seen refl e)
     (either (seen .visit .there))
-
-unequal : (i j : ℕ) → i < j → i ≡ j → ⊥
-unequal i j l e = let q : i ≡ j = e in omega arith
 
 -- ---- the sixteen turns of a sweep at a station, for one slot
 
@@ -135,7 +134,7 @@ module _ (site p : ℕ) (place : site < 8) (slot : p < 16) where
           → (p < suc n) × (visitAt (sweepTurn site n (turnsUpTo (Trip.Sweep site) o n) .tables) site p .there ≡ false)
       gone (j, e) = (
         omega arith,
-        ap (λ (v : Visit). v .there) (turn-other n (turnsUpTo (Trip.Sweep site) o n) i (λ q. absurd (unequal p n j (sym q)))) ∙ e,
+        ap (λ (v : Visit). v .there) (turn-other n (turnsUpTo (Trip.Sweep site) o n) i (λ q. absurd (ne-of-lt j (sym q)))) ∙ e,
       )
 
       still :

@@ -1,13 +1,14 @@
 -- The parts of a round at a visit that is there: phase 1 and phase 2 at home or away; and a quiesce time that goes down. Assumes nothing.
 use Prim.Native.Nat.{ℕ, _<_, _≤_, min, max}
 use native.Mathlib.Omega.{arith}
-use mathlib.Core.Path.{_≡_, refl, sym, ap, _∙_, subst}
+use mathlib.Core.Path.{_≡_, refl, sym, ap, _∙_}
 use mathlib.Core.Logic.{_≢_}
-use mathlib.Core.Bool.{Bool, true, false, false≢true}
+use mathlib.Core.Bool.{Bool, true, false≢true}
 use Rattle.rules.specs.Parts.{quieted, withTimes, askedVisit, askedOf, largestQuiesce}
-use Rattle.runs.specs.Types.{Kind, Visit, Call, Asked, Told, Body}
+use Rattle.runs.specs.Types.{Kind, Visit, Asked, Told, Body}
 use Rattle.runs.specs.View.{View, Ledger}
-use Rattle.runs.specs.Clauses.{isBinding, Below, Quiet, SiteFine, CallFine, LateFine, BodyFine, Holds}
+use Rattle.runs.specs.Clauses.{isBinding, Below, Quiet, SiteFine, Holds}
+use Rattle.runs.specs.ClausesLaws.{call-says, late-says, terminate-says}
 use Rattle.runs.specs.VisitKept.{withVisit, withLast, revised-kept}
 
 -- what is below every release stays so when it is smaller
@@ -17,23 +18,6 @@ below-le w l p q i h =
       visits = λ t e. let j : q ≤ l t .last .release = h .visits t e in omega arith;
       calls = λ k c e n. let j : q ≤ c .release = h .calls k c e n in omega arith;
     }
-
--- what the invariant says of a message, once its body is known
-module _ (w : View) (l : Ledger) (h : Holds w l) where
-  pub call-says : (k : ℕ) (c : Call) → w .mail k .body ≡ Body.Call c → CallFine w l (w .mail k) c
-  call-says k c e = subst (BodyFine w l (w .mail k)) e (h .mail k)
-
-  pub late-says :
-      (k n q : ℕ) → w .mail k .body ≡ Body.PhaseTwo n (Told.Refresh q) → LateFine w l (w .mail k) n q
-  late-says k n q e = subst (BodyFine w l (w .mail k)) e (h .mail k) .1
-
-  pub terminate-says :
-      (k n m : ℕ) → w .mail k .body ≡ Body.PhaseTwo n (Told.Terminate m)
-      → Quiet w l × ((s : ℕ) → l s .seen ≡ true → l s .last .quiesce ≤ m)
-  terminate-says k n m e = subst (BodyFine w l (w .mail k)) e (h .mail k) .1
-
-  pub prepare-says : (k n : ℕ) → w .mail k .body ≡ Body.PhaseTwo n Told.Prepare → Quiet w l
-  prepare-says k n e = subst (BodyFine w l (w .mail k)) e (h .mail k) .1
 
 -- ---- the quiesce time goes down, the release time up, and the round does not go back
 

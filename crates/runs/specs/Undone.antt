@@ -17,7 +17,8 @@ use Rattle.rules.specs.Runs.{runOf}
 use Rattle.runs.specs.Types.{Tables, Step}
 use Rattle.runs.specs.Steps.{run-on}
 use Rattle.runs.specs.Sizes.{sized-start, sized-step, sized-run}
-use Rattle.runs.specs.Ledgers.{seenAt, repeat-has}
+use Rattle.runs.specs.Plain.{repeat-has}
+use Rattle.runs.specs.Ledgers.{seenAt}
 use Rattle.runs.specs.Rests.{isAtRest, restAfter, restFrom, restOf, HeldThrough, commits, standing, standing-unheld, Stands}
 use Rattle.runs.specs.RestSteps.{step-stands}
 

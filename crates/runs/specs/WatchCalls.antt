@@ -15,7 +15,7 @@ use Rattle.rules.specs.Machine.{seenOf}
 use Rattle.rules.specs.RangesLaws.{cond-keeps}
 use Rattle.runs.specs.Types.{Visit, Call, Asked, Told, Body, Message, Tables, Places, Seen, Decision}
 use Rattle.runs.specs.View.{View, viewOf}
-use Rattle.runs.specs.Store.{Own, own-mail}
+use Rattle.runs.specs.Store.{own-body, reply-own}
 use Rattle.runs.specs.WatchKept.{BodyKeeps}
 use Rattle.runs.specs.WatchMailKept.{mail-keeps, empty-keeps, seen-keeps}
 use Rattle.runs.specs.WatchPassageKept.{passage-stays, answered-keeps, asked-home, told-home}
@@ -72,7 +72,7 @@ module _ (latest : ℕ) (t : Tables) (at : Places) (m : ℕ) (own : slotOf (mess
   letter-keeps b body full =
       subst
       (BodyKeeps latest view)
-      (ap (λ (x : Message). x .body) (own-mail (at .slot) letter (ap isEmpty body ∙ full) own) ∙ body)
+      (own-body (at .slot) letter b body full own)
       (mail-keeps latest view (at .message))
 
   pub call-keeps : (c : Call) → letter .body ≡ Body.Call c → Fine (callChecks m c seen) → Keeps latest t at (callDone m c seen .left)
@@ -98,17 +98,7 @@ module _ (latest : ℕ) (t : Tables) (at : Places) (m : ℕ) (own : slotOf (mess
             };
       }
 
-  -- the answer is of the same slot, and brings no time
-  reply-own : (v : Visit) → Own (at .slot) (replyOf v (mailClock seen) seen)
-  reply-own v =
-      cond-keeps
-      (Own (at .slot))
-      (atHome seen)
-      noMessage
-      (answerMessage v (letter .destination) (passageAt t (at .slot) .home) (letter .handle) (mailClock seen))
-      (inl refl)
-      (inr own)
-
+  -- the answer brings no time
   reply-keeps : (v : Visit) → BodyKeeps latest view (replyOf v (mailClock seen) seen .body)
   reply-keeps v =
       cond-keeps
@@ -124,7 +114,7 @@ module _ (latest : ℕ) (t : Tables) (at : Places) (m : ℕ) (own : slotOf (mess
   phase-one-keeps n asked body =
       record {
         clock = omega arith;
-        mail = inr (inr own, reply-own asks);
+        mail = inr (inr own, reply-own (at .slot) (mailClock seen) asks seen own);
         own =
             λ e.
             record {

@@ -20,10 +20,11 @@ use Rattle.rules.specs.StoredLaws.{Sized}
 use Rattle.rules.specs.RangesLaws.{placed-places, placed-slots}
 use Rattle.rules.specs.Runs.{runOf}
 use Rattle.runs.specs.Types.{Kind, Status, Passage, Body, Tables, Step, Places, Seen, Decision, Outcome}
+use Rattle.runs.specs.Plain.{repeat-has}
 use Rattle.runs.specs.View.{mailOf, viewOf}
 use Rattle.runs.specs.Steps.{ghostRun, run-keeps}
 use Rattle.runs.specs.Sizes.{sized-head, sized-turn}
-use Rattle.runs.specs.Ledgers.{placesAt, seenAt, repeat-has}
+use Rattle.runs.specs.Ledgers.{placesAt, seenAt}
 use Rattle.runs.specs.Watch.{Known, Watch}
 use Rattle.runs.specs.WatchKept.{Follows, follows-same, watch-unwatched, plain-free, aborted-free}
 use Rattle.runs.specs.WatchStore.{knownHead, knownTurn, Keeps, Guards, keeps-guards, guarded}

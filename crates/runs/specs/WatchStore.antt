@@ -1,7 +1,7 @@
 -- What is known of a passage along a run, and what a store must leave so that every slot keeps the invariant behind demand 3. Assumes nothing.
 use Prim.Native.Nat.{ℕ, _<_, _≤_}
-use mathlib.Core.Path.{_≡_, sym, ap, _∙_, subst}
-use mathlib.Core.Logic.{_≢_, ⊎-elim, _⊎_}
+use mathlib.Core.Path.{sym, subst}
+use mathlib.Core.Logic.{_≢_, ⊎-elim}
 use mathlib.Core.Bool.{not, _&&_}
 use Rattle.rules.specs.declared.answers.Trip.{Trip}
 use Rattle.rules.specs.Tables.{siteAt, passageAt, messageAt}
@@ -10,7 +10,7 @@ use Rattle.rules.specs.StoredLaws.{Sized, Placed}
 use Rattle.runs.specs.Types.{Passage, Visit, Body, Tables, Step, Places, Seen}
 use Rattle.runs.specs.Put.{same-or-other}
 use Rattle.runs.specs.View.{View, mailOf, viewOf}
-use Rattle.runs.specs.Store.{leftView, Own, other-mail, own-view, other-view}
+use Rattle.runs.specs.Store.{leftView, OwnChange, other-still, own-view, other-view}
 use Rattle.runs.specs.Orphans.{commitAfter, retires}
 use Rattle.runs.specs.Watch.{Known, Watch}
 use Rattle.runs.specs.WatchKept.{Follows, watch-follows, Ending, BodyKeeps, VisitKeeps, PassageKeeps, watch-left, watch-moved}
@@ -41,9 +41,7 @@ pub record LeftKeeps (latest : ℕ) (w : View) (a : ℕ) (p : Passage) (v : Visi
 -- a step that tells nothing new of the passage
 pub record Keeps (latest : ℕ) (t : Tables) (at : Places) (left : Seen) : Type 0 where
   pub clock : siteAt t (at .site) .clock ≤ left .site .clock
-  pub mail :
-      (left .message ≡ messageAt t (at .message))
-      ⊎ (Own (at .slot) (messageAt t (at .message)) × Own (at .slot) (left .message))
+  pub mail : OwnChange (at .slot) (messageAt t (at .message)) (left .message)
   pub own :
       Ending (passageAt t (at .slot))
       → LeftKeeps latest (viewOf t (at .slot)) (at .site) (left .passage) (left .visit) (mailOf (at .slot) (left .message) .body)
@@ -51,9 +49,7 @@ pub record Keeps (latest : ℕ) (t : Tables) (at : Places) (left : Seen) : Type 
 -- any step, where next says what is known of each slot after it
 pub record Guards (latest site : ℕ) (t : Tables) (at : Places) (g : Known) (next : ℕ → Known) (left : Seen) : Type 0 where
   pub clock : siteAt t (at .site) .clock ≤ left .site .clock
-  pub mail :
-      (left .message ≡ messageAt t (at .message))
-      ⊎ (Own (at .slot) (messageAt t (at .message)) × Own (at .slot) (left .message))
+  pub mail : OwnChange (at .slot) (messageAt t (at .message)) (left .message)
   pub own :
       Watch latest site g (viewOf t (at .slot))
       → Watch
@@ -101,13 +97,6 @@ keeps-guards latest site t at g next left f x =
 -- then every slot's invariant is kept
 module _ (latest site : ℕ) (t : Tables) (at : Places) (g : Known) (next : ℕ → Known) (left : Seen)
     (z : Sized t) (h : Placed at) (x : Guards latest site t at g next left) where
-  other-still : (p : ℕ) → p ≢ at .slot → mailOf p (left .message) ≡ mailOf p (messageAt t (at .message))
-  other-still p n =
-      ⊎-elim
-      (λ e. ap (mailOf p) e)
-      (λ e. other-mail (at .slot) p (left .message) (e .1) n ∙ sym (other-mail (at .slot) p (messageAt t (at .message)) (e .0) n))
-      (x .mail)
-
   own-guarded : Watch latest site g (viewOf t (at .slot)) → Watch latest site (next (at .slot)) (viewOf (stored t at left) (at .slot))
   own-guarded k = rw (own-view t at left z h) (x .own k)
 
@@ -134,7 +123,7 @@ module _ (latest site : ℕ) (t : Tables) (at : Places) (g : Known) (next : ℕ 
       (left .site .clock)
       (mailOf p (left .message))
       (x .clock)
-      (other-still p n)
+      (other-still (at .slot) p (messageAt t (at .message)) (left .message) (x .mail) n)
       k))
 
   pub guarded :

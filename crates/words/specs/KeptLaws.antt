@@ -8,6 +8,7 @@ use mathlib.Core.List.{List, [], _∷_}
 use lib.Dec.{ltb, eqb}
 use lib.ListN.{length, getD, length-append, length-set}
 use Rattle.rules.specs.LoopsLaws.{either}
+use Rattle.rules.specs.RangesLaws.{cond-keeps}
 use Rattle.words.specs.Types.{Slot, Fault, Mode, Scan, Verdict, Stop, Reader}
 use Rattle.words.specs.Grammar.{edgeCount, edgeOf, edgeAt, slotAt, mostIn, rawNode, said, putTwo, putFour, stored}
 use Rattle.words.specs.Scan.{isSpace, isHash, isLetter, isDigit, hexValue, at, blank, wrong, misplaced, followed, wordTaken, filled, numberTaken, endBy, endOf, notedBy, noted, hexTaken, hexNext, lettered, numbered, begun, byteBy, liveNext, nextBy, scanNext, verdictOf, lineMost, recordMost, linesMost, reading, stopped, judged, lineEnded, byteRead, nextWhile, readerNext, givesRecord, given, Read, unread, readNext, readAll, textRead}
@@ -16,16 +17,14 @@ use Rattle.words.specs.ReadLaws.{next-count, count-most}
 -- ---- a line
 
 list-long : (t : Bool) (xs ys : List ℕ) (n : ℕ) → length xs ≡ n → length ys ≡ n → length (cond t xs ys) ≡ n
-list-long true xs ys n p q = p
-list-long false xs ys n p q = q
+list-long t xs ys n = cond-keeps (λ (zs : List ℕ). length zs ≡ n) t xs ys
 
 -- a scan whose record has so many bytes
 abbrev Long : Scan → ℕ → Type 0
 Long s n = length (s .bytes) ≡ n
 
 cond-long : (t : Bool) (x y : Scan) (n : ℕ) → Long x n → Long y n → Long (cond t x y) n
-cond-long true x y n p q = p
-cond-long false x y n p q = q
+cond-long t x y n = cond-keeps (λ (s : Scan). Long s n) t x y
 
 said-long : (field value : ℕ) (bytes : List ℕ) → length (said field value bytes) ≡ length bytes
 said-long field value bytes = list-long (ltb field 16) _ bytes (length bytes) (length-set bytes field value) refl
@@ -107,8 +106,7 @@ scan-long s b = next-by-long (s .mode) s b
 -- ---- a text
 
 cond-sixteen : (t : Bool) (x y : Reader) → Long (x .scan) 16 → Long (y .scan) 16 → Long (cond t x y .scan) 16
-cond-sixteen true x y p q = p
-cond-sixteen false x y p q = q
+cond-sixteen = cond-keeps (λ (r : Reader). Long (r .scan) 16)
 
 judged-sixteen : (r : Reader) (v : Verdict) → Long (r .scan) 16 → Long (judged r v .scan) 16
 judged-sixteen r Verdict.Blank h = refl

@@ -4,7 +4,7 @@ use native.Mathlib.Omega.{arith}
 use native.Mathlib.Nat.{zero-add}
 use mathlib.Core.Path.{_≡_, refl, sym, ap, _∙_, subst}
 use mathlib.Core.Logic.{⊎-elim}
-use mathlib.Core.Bool.{Bool, true, false, _||_}
+use mathlib.Core.Bool.{Bool, true, false, _||_, true≢false}
 use mathlib.Core.List.{List, [], _∷_, _++_}
 use borrow.Author.Tests.{ltb-true, ltb-false, lt-ltb, le-ltb, eqb-true}
 use lib.Dec.{ltb, eqb}
@@ -39,7 +39,7 @@ place-wide node =
     (either (ltb node 31))
 
 or-second : (a b : Bool) → (a || b) ≡ true → a ≡ false → b ≡ true
-or-second true b e f = absurd (let z : _≡_ {A = ℕ} 0 1 = cc in omega arith)
+or-second true b e f = absurd (true≢false f)
 or-second false b e f = e
 
 -- so it is at each place of the grammar that takes a number
@@ -53,11 +53,7 @@ place-plain : (node : ℕ) → eqb (slotAt node .width) 0 ≡ false → eqb node
 place-plain node takes =
     ⊎-elim
     (λ (h : eqb node rawNode ≡ true).
-    absurd (
-    let z : true ≡ false = subst (λ (k : ℕ). eqb (slotAt k .width) 0 ≡ false) (eqb-true node rawNode h) takes in
-    let y : _≡_ {A = ℕ} 0 1 = cc in
-    omega arith
-    ))
+    absurd (true≢false (subst (λ (k : ℕ). eqb (slotAt k .width) 0 ≡ false) (eqb-true node rawNode h) takes)))
     (λ h. h)
     (either (eqb node rawNode))
 

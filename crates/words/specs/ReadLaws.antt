@@ -13,6 +13,7 @@ use lib.ListN.{length, getD, take}
 use lib.Seq.{take-suc}
 use Rattle.rules.specs.Loops.{oneIf}
 use Rattle.rules.specs.LoopsLaws.{and-right, either}
+use Rattle.rules.specs.RangesLaws.{cond-keeps}
 use Rattle.words.specs.Types.{Fault, Verdict, Stop, Reader}
 use Rattle.words.specs.Scan.{blank, scanNext, reading, stopped, isGoing, saysRecord, verdictOf, endOf, lineMost, recordMost, linesMost, readerNext, givesRecord, given, Read, unread, readNext, readAll, textRead}
 use Rattle.words.specs.TextLaws.{read-append}
@@ -20,8 +21,7 @@ use Rattle.words.specs.TextLaws.{read-append}
 -- ---- the count of records grows by one where a record is given
 
 same-count : (t : Bool) (x y : Reader) (n : ℕ) → x .count ≡ n → y .count ≡ n → cond t x y .count ≡ n
-same-count true x y n p q = p
-same-count false x y n p q = q
+same-count t x y n = cond-keeps (λ (r : Reader). r .count ≡ n) t x y
 
 one-count : (t : Bool) (x y : Reader) (n : ℕ) → x .count ≡ n + 1 → y .count ≡ n → cond t x y .count ≡ n + oneIf t
 one-count true x y n p q = p

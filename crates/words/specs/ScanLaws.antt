@@ -14,6 +14,7 @@ use Rattle.words.specs.Types.{Mode, Scan}
 use Rattle.words.specs.Grammar.{edgeCount, edgeOf, edgeAt, slotAt, mostIn, rawNode, said, stored}
 use Rattle.words.specs.Scan.{at, wordTaken, numberTaken, endOf, scanNext, scanAll}
 use Rattle.words.specs.Say.{Token, wordText, numberText, tokenText, restText}
+use Rattle.words.specs.Spelling.{space-ends}
 
 -- one part after another
 pub scan-append : (s : Scan) (xs ys : List ℕ) → scanAll s (xs ++ ys) ≡ scanAll (scanAll s xs) ys
@@ -138,12 +139,6 @@ token-ends (Token.Word w) node bytes f = rw (f .known)
 token-ends (Token.Number n) node bytes f =
     rw (f .taken, le-ltb (mostIn (slotAt node .width)) n (f .fits))
 
--- a space ends it
-space-ends : (t : Token) (node : ℕ) (bytes : List ℕ) → scanNext (pending t node bytes) 32 ≡ endOf (pending t node bytes)
-unfolding scanNext
-space-ends (Token.Word w) node bytes = refl
-space-ends (Token.Number n) node bytes = refl
-
 -- the text of a path takes the reader along the path
 pub path-read :
     (ts : List Token) (t : Token) (node : ℕ) (bytes : List ℕ) → Path node (t ∷ ts)
@@ -157,6 +152,6 @@ path-read (u ∷ us) t node bytes p =
     ap endOf (
     scan-append (at Mode.Gap 0 node 0 bytes) (tokenText t) (restText (u ∷ us))
     ∙ ap (λ (s : Scan). scanAll s (restText (u ∷ us))) (token-read t node bytes (p .0))
-    ∙ ap (λ (s : Scan). scanAll s (tokenText u ++ restText us)) (space-ends t node bytes ∙ token-ends t node bytes (p .0))
+    ∙ ap (λ (s : Scan). scanAll s (tokenText u ++ restText us)) (space-ends (pending t node bytes) 32 refl ∙ token-ends t node bytes (p .0))
     )
     ∙ path-read us u (placeAfter node t) (bytesAfter node t bytes) (p .1)

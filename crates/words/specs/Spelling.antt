@@ -1,9 +1,10 @@
 -- The words' numbers spell the words, a space in any number between two words is one, and a comment says nothing. Assumes nothing.
 use Prim.Native.Nat.{ℕ}
 use mathlib.Core.Path.{_≡_, refl, sym, ap, _∙_}
-use mathlib.Core.Bool.{Bool, true, false, cond}
+use mathlib.Core.Bool.{Bool, true, cond}
 use mathlib.Core.List.{List, [], _∷_}
 use lib.Dec.{ltb, eqb}
+use Rattle.rules.specs.RangesLaws.{cond-keeps}
 use Rattle.words.specs.Types.{Fault, Mode, Scan}
 use Rattle.words.specs.Grammar.{tickWord, beginWord, invokeWord, refreshWord, terminateWord, prepareWord, askWord, closeWord, tellWord, abortWord, deliverWord, dropWord, sweepWord, crashWord, recoverWord, retireWord, rawWord, byWord, homeWord, slotWord, quiesceWord, releaseWord, atWord, readWord, writeWord, operationWord, objectWord, valueWord, edgeCount, edgeOf, edgeAt, slotAt, mostIn}
 use Rattle.words.specs.Scan.{isSpace, followed, misplaced, wordTaken, filled, numberTaken, endBy, endOf, notedBy, noted, nextBy, scanNext, scanAll, verdictBy, verdictOf}
@@ -22,8 +23,7 @@ words-spelled = refl
 -- ---- any spacing
 
 end-cond : (t : Bool) (x y : Scan) → endOf x ≡ x → endOf y ≡ y → endOf (cond t x y) ≡ cond t x y
-end-cond true x y p q = p
-end-cond false x y p q = q
+end-cond = cond-keeps (λ (s : Scan). endOf s ≡ s)
 
 end-by-again : (m : Mode) (s : Scan) → s .mode ≡ m → endOf (endBy m s) ≡ endBy m s
 unfolding wordTaken numberTaken
@@ -112,8 +112,7 @@ Settled Mode.Comment = Unit {0}
 Settled (Mode.Wrong f) = Unit {0}
 
 settled-cond : (t : Bool) (x y : Scan) → Settled (x .mode) → Settled (y .mode) → Settled (cond t x y .mode)
-settled-cond true x y p q = p
-settled-cond false x y p q = q
+settled-cond = cond-keeps (λ (s : Scan). Settled (s .mode))
 
 settled-by : (m : Mode) (s : Scan) → s .mode ≡ m → Settled (endBy m s .mode)
 unfolding wordTaken numberTaken

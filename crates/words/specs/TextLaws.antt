@@ -11,6 +11,7 @@ use lib.Dec.{ltb, eqb}
 use lib.ListN.{length, length-append}
 use Rattle.rules.specs.Listing.{digitsOf}
 use Rattle.rules.specs.Record.{stepOfRecord}
+use Rattle.rules.specs.RangesLaws.{cond-keeps}
 use Rattle.rules.specs.RecordLaws.{Bytes16}
 use Rattle.words.specs.Types.{Scan, Step, Reading}
 use Rattle.words.specs.Grammar.{rawWord}
@@ -31,8 +32,7 @@ plain-append [] ys p q = q
 plain-append (x ∷ xs) ys p q = (p .0, plain-append xs ys (p .1) q)
 
 plain-cond : (t : Bool) (xs ys : List ℕ) → Plain xs → Plain ys → Plain (cond t xs ys)
-plain-cond true xs ys p q = p
-plain-cond false xs ys p q = q
+plain-cond = cond-keeps Plain
 
 plain-digits : (k n : ℕ) → Plain (digitsOf k n)
 unfolding digitsOf
@@ -79,8 +79,7 @@ plain-record b = plain-by (stepOfRecord b) b
 -- ---- how long they are
 
 cond-length : {A : Type 0} (t : Bool) (xs ys : List A) (k : ℕ) → length xs ≤ k → length ys ≤ k → length (cond t xs ys) ≤ k
-cond-length true xs ys k hx hy = hx
-cond-length false xs ys k hx hy = hy
+cond-length t xs ys k = cond-keeps (λ zs. length zs ≤ k) t xs ys
 
 pub digits-length : (k n : ℕ) → length (digitsOf k n) ≤ k
 unfolding digitsOf
