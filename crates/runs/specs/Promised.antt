@@ -1,5 +1,5 @@
 -- A station that has promised keeps its promise until home's word: a prepared visit goes by the close of its commit round at home,
--- or by the delivery of that round's phase 2 elsewhere, and by no other step; no sweep, crash, abort or retire takes it. Assumes nothing.
+-- or by the delivery there of a commit's phase 2 for its slot, and by no other step; no sweep, crash, abort or retire takes it. Assumes nothing.
 use Prim.Native.Nat.{ℕ, zero, suc, _%_, _≤_, _<_}
 use native.Mathlib.Omega.{arith}
 use mathlib.Core.Path.{_≡_, refl, sym, ap, _∙_, subst₂}
@@ -39,7 +39,7 @@ pub record Promised (t : Tables) (site slot : ℕ) : Type 0 where
   pub prepared : visitAt t site slot .prepared ≡ true
 
 -- is the step home's word to the visit of this slot at this site?
--- At home it is the close of a commit round, elsewhere the delivery of its phase 2. (Sites are 0..7 and messages 0..31, so the remainders change nothing.)
+-- At home it is the close of a commit round, else the delivery there of a commit's phase 2 for the slot; refusal 9 sees to the round. (Sites are 0..7 and messages 0..31, so the remainders change nothing.)
 abbrev pub isWord : Tables → ℕ → ℕ → Step → Bool
 isWord t site slot (Step.Tick a n) = false
 isWord t site slot (Step.Begin home b q r) = false
@@ -291,7 +291,7 @@ module _ (s p : ℕ) (slot : p < 16) where
   )
 
 -- A station that has promised keeps its promise until home's word: in every run, a step after which a prepared visit is gone
--- is an accepted close of its passage's commit round, at home, or an accepted delivery of that round's phase 2, elsewhere
+-- is an accepted close of its passage's commit round, at home, or an accepted delivery there of a commit's phase 2 for its slot
 pub promise-kept-until-word :
     (ss : List Step) (step : Step) (s p : ℕ) → p < 16 → Promised (runOf start ss) s p
     → visitAt (stepOf (runOf start ss) step .tables) s p .there ≡ false
