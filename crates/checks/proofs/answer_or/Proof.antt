@@ -6,8 +6,5 @@ use Rattle.checks.proofs.answer_or.Tie as tie
 returns : tie.Need-returns
 returns c = rw (c .if1 .taken)
 
-returns-2 : tie.Need-returns-2
-returns-2 c = search needs
-
 pub answer-or-spec : {M : Type 1} → statement M
-answer-or-spec = tie.close (tie.spec returns returns-2)
+answer-or-spec = tie.close (tie.spec returns (λ c. search needs))

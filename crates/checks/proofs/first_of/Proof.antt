@@ -20,21 +20,6 @@ loop-holds c =
     let l : length (c .args .t1) ≡ 7 = search needs in
     (sym (first-of-none (c .args .t1) 7 (c .args .value) (omega arith)), search needs)
 
-sub-i : tie.Need-sub-i Inv-loop μ-loop
-sub-i c = search needs
-
-mul-check : tie.Need-mul-check Inv-loop μ-loop
-mul-check c = search needs
-
-array-copy-out-check : tie.Need-array-copy-out-check Inv-loop μ-loop
-array-copy-out-check c = search needs
-
-answer-or-requires : tie.Need-answer-or-requires Inv-loop μ-loop
-answer-or-requires c κs = search needs
-
-loop-less : tie.Need-loop-less Inv-loop μ-loop
-loop-less c = search needs
-
 loop-again : tie.Need-loop-again Inv-loop μ-loop
 loop-again c =
     let l : length (c .before .before .before .before .args .t1) ≡ 7 = search needs in (
@@ -54,10 +39,10 @@ first-of-spec =
     Inv-loop
     μ-loop
     loop-holds
-    sub-i
-    mul-check
-    array-copy-out-check
-    answer-or-requires
-    loop-less
+    (λ c. search needs)
+    (λ c. search needs)
+    (λ c. search needs)
+    (λ c κs. search needs)
+    (λ c. search needs)
     loop-again
     returns)

@@ -3,14 +3,8 @@ use borrow.Author.Needs.{needs}
 use Rattle.checks.proofs.no_mail.Statement.{statement}
 use Rattle.checks.proofs.no_mail.Tie as tie
 
-is-empty-requires : tie.Need-is-empty-requires
-is-empty-requires c κs = search needs
-
-refuse-requires : tie.Need-refuse-requires
-refuse-requires c κs = search needs
-
 returns : tie.Need-returns
 returns c = rw (c .refuse .ensures, c .before .is-empty .ensures)
 
 pub no-mail-spec : {M : Type 1} → statement M
-no-mail-spec = tie.close (tie.spec is-empty-requires refuse-requires returns)
+no-mail-spec = tie.close (tie.spec (λ c κs. search needs) (λ c κs. search needs) returns)

@@ -3,9 +3,6 @@ use borrow.Author.Needs.{needs}
 use Rattle.checks.proofs.settle.Statement.{statement}
 use Rattle.checks.proofs.settle.Tie as tie
 
-is-accepted-requires : tie.Need-is-accepted-requires
-is-accepted-requires c κs = search needs
-
 returns : tie.Need-returns
 returns c = rw (← c .before .is-accepted .ensures, c .if1 .taken)
 
@@ -13,4 +10,4 @@ returns-2 : tie.Need-returns-2
 returns-2 c = rw (← c .before .is-accepted .ensures, c .if1 .left)
 
 pub settle-spec : {M : Type 1} → statement M
-settle-spec = tie.close (tie.spec is-accepted-requires returns returns-2)
+settle-spec = tie.close (tie.spec (λ c κs. search needs) returns returns-2)

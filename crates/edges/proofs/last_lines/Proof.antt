@@ -11,45 +11,18 @@ Inv-loop text lines at₀ left₀ at left = (at ≤ length text)
 abbrev μ-loop : tie.MeasureT-loop
 μ-loop text lines at₀ left₀ at left = at
 
-loop-holds : tie.Need-loop-holds Inv-loop μ-loop
-loop-holds c = search needs
-
-sub-if1 : tie.Need-sub-if1 Inv-loop μ-loop
-sub-if1 c = search needs
-
-shared-slice-read-if1 : tie.Need-shared-slice-read-if1 Inv-loop μ-loop
-shared-slice-read-if1 c = search needs
-
-returns : tie.Need-returns Inv-loop μ-loop
-returns c = search needs
-
-sub-left : tie.Need-sub-left Inv-loop μ-loop
-sub-left c = search needs
-
-sub-at : tie.Need-sub-at Inv-loop μ-loop
-sub-at c = search needs
-
-loop-less : tie.Need-loop-less Inv-loop μ-loop
-loop-less c = search needs
-
-loop-again : tie.Need-loop-again Inv-loop μ-loop
-loop-again c = search needs
-
-returns-2 : tie.Need-returns-2 Inv-loop μ-loop
-returns-2 c = search needs
-
 pub last-lines-spec : {M : Type 1} → statement M
 last-lines-spec =
     tie.close
     (tie.spec
     Inv-loop
     μ-loop
-    loop-holds
-    sub-if1
-    shared-slice-read-if1
-    returns
-    sub-left
-    sub-at
-    loop-less
-    loop-again
-    returns-2)
+    (λ c. search needs)
+    (λ c. search needs)
+    (λ c. search needs)
+    (λ c. search needs)
+    (λ c. search needs)
+    (λ c. search needs)
+    (λ c. search needs)
+    (λ c. search needs)
+    (λ c. search needs))

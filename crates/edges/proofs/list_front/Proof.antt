@@ -9,11 +9,5 @@ use Rattle.edges.proofs.list_front.Tie as tie
 slice-aggregate-list : tie.Need-slice-aggregate-list
 slice-aggregate-list c = sym (length-take-le (c .before .before .args .n) (c .before .before .args .sheet .now) (search needs))
 
-list-requires : tie.Need-list-requires
-list-requires c κs = search needs
-
-returns : tie.Need-returns
-returns c = search needs
-
 pub list-front-spec : {M : Type 1} → statement M
-list-front-spec = tie.close (tie.spec slice-aggregate-list list-requires returns)
+list-front-spec = tie.close (tie.spec slice-aggregate-list (λ c κs. search needs) (λ c. search needs))

@@ -19,15 +19,6 @@ loop-holds : tie.Need-loop-holds Inv-loop μ-loop
 unfolding firstUpTo
 loop-holds c = (refl, search needs, search needs)
 
-found-next-requires : tie.Need-found-next-requires Inv-loop μ-loop
-found-next-requires c κs = search needs
-
-add-k : tie.Need-add-k Inv-loop μ-loop
-add-k c = search needs
-
-loop-less : tie.Need-loop-less Inv-loop μ-loop
-loop-less c = search needs
-
 loop-again : tie.Need-loop-again Inv-loop μ-loop
 unfolding firstUpTo
 loop-again c = (rw (add-one, c .found-next .ensures .0, ← c .before .before .loop .inv .0), search needs, search needs)
@@ -39,4 +30,4 @@ returns c = let e : c .before .loop .k ≡ 31 = omega arith in (rw e at (c .befo
 pub edge-at-spec : {M : Type 1} → statement M
 edge-at-spec =
     tie.close
-    (tie.spec Inv-loop μ-loop loop-holds found-next-requires add-k loop-less loop-again returns)
+    (tie.spec Inv-loop μ-loop loop-holds (λ c κs. search needs) (λ c. search needs) (λ c. search needs) loop-again returns)

@@ -3,11 +3,8 @@ use borrow.Author.Needs.{needs}
 use Rattle.grammar.proofs.leads_from.Statement.{statement}
 use Rattle.grammar.proofs.leads_from.Tie as tie
 
-edge-of-requires : tie.Need-edge-of-requires
-edge-of-requires c κs = search needs
-
 returns : tie.Need-returns
 returns c = rw (c .before .before .edge-of .ensures)
 
 pub leads-from-spec : {M : Type 1} → statement M
-leads-from-spec = tie.close (tie.spec edge-of-requires returns)
+leads-from-spec = tie.close (tie.spec (λ c κs. search needs) returns)

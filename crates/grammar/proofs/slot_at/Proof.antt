@@ -4,15 +4,6 @@ use borrow.Author.Needs.{needs}
 use Rattle.grammar.proofs.slot_at.Statement.{statement}
 use Rattle.grammar.proofs.slot_at.Tie as tie
 
-array-read-t7 : tie.Need-array-read-t7
-array-read-t7 c = search needs
-
-array-read-t11 : tie.Need-array-read-t11
-array-read-t11 c = search needs
-
-array-read-t15 : tie.Need-array-read-t15
-array-read-t15 c = search needs
-
 returns : tie.Need-returns
 returns c = (slot-made (c .before .args .node), slot-within (c .before .args .node) (search needs))
 
@@ -20,4 +11,4 @@ returns-2 : tie.Need-returns-2
 returns-2 c = (slot-past (c .before .args .node) (search needs), search needs)
 
 pub slot-at-spec : {M : Type 1} → statement M
-slot-at-spec = tie.close (tie.spec array-read-t7 array-read-t11 array-read-t15 returns returns-2)
+slot-at-spec = tie.close (tie.spec (λ c. search needs) (λ c. search needs) (λ c. search needs) returns returns-2)

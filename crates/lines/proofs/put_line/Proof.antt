@@ -9,9 +9,6 @@ use borrow.Author.Needs.{needs}
 use Rattle.lines.proofs.put_line.Statement.{statement}
 use Rattle.lines.proofs.put_line.Tie as tie
 
-put-decimal-requires : tie.Need-put-decimal-requires
-put-decimal-requires c κs = search needs
-
 put-field-requires : tie.Need-put-field-requires
 put-field-requires c κs = omega (arith, digits-length 20 (c .before .before .before .before .before .before .args .place))
 
@@ -23,9 +20,6 @@ put-byte-requires : tie.Need-put-byte-requires
 put-byte-requires c κs =
     let args = c .before .before .before .before .before .before .before .before .before .before .before .before .before .before .args in
     omega (arith, digits-length 20 (args .place), digits-length 20 (args .number), digits-length 20 (args .value))
-
-same-length : tie.Need-same-length
-same-length c = search needs
 
 returns : tie.Need-returns
 returns c =
@@ -42,9 +36,9 @@ pub put-line-spec : {M : Type 1} → statement M
 put-line-spec =
     tie.close
     (tie.spec
-    put-decimal-requires
+    (λ c κs. search needs)
     put-field-requires
     put-field-requires-2
     put-byte-requires
-    same-length
+    (λ c. search needs)
     returns)

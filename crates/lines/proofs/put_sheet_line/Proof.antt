@@ -9,17 +9,8 @@ use borrow.Author.Needs.{needs}
 use Rattle.lines.proofs.put_sheet_line.Statement.{statement}
 use Rattle.lines.proofs.put_sheet_line.Tie as tie
 
-put-sheet-word-requires : tie.Need-put-sheet-word-requires
-put-sheet-word-requires c κs = search needs
-
-put-decimal-requires : tie.Need-put-decimal-requires
-put-decimal-requires c κs = search needs
-
 put-byte-requires : tie.Need-put-byte-requires
 put-byte-requires c κs = omega (arith, digits-length 20 (c .before .before .before .before .before .before .before .before .before .before .args .number))
-
-same-length : tie.Need-same-length
-same-length c = search needs
 
 returns : tie.Need-returns
 returns c =
@@ -33,4 +24,4 @@ returns c =
 pub put-sheet-line-spec : {M : Type 1} → statement M
 put-sheet-line-spec =
     tie.close
-    (tie.spec put-sheet-word-requires put-decimal-requires put-byte-requires same-length returns)
+    (tie.spec (λ c κs. search needs) (λ c κs. search needs) put-byte-requires (λ c. search needs) returns)

@@ -9,27 +9,6 @@ use borrow.Author.Needs.{needs}
 use Rattle.lines.proofs.put_sheet_word.Statement.{statement}
 use Rattle.lines.proofs.put_sheet_word.Tie as tie
 
-put-byte-requires : tie.Need-put-byte-requires
-put-byte-requires c κs = search needs
-
-put-byte-requires-2 : tie.Need-put-byte-requires-2
-put-byte-requires-2 c κs = search needs
-
-put-byte-requires-3 : tie.Need-put-byte-requires-3
-put-byte-requires-3 c κs = search needs
-
-put-byte-requires-4 : tie.Need-put-byte-requires-4
-put-byte-requires-4 c κs = search needs
-
-put-byte-requires-5 : tie.Need-put-byte-requires-5
-put-byte-requires-5 c κs = search needs
-
-put-byte-requires-6 : tie.Need-put-byte-requires-6
-put-byte-requires-6 c κs = search needs
-
-same-length : tie.Need-same-length
-same-length c = search needs
-
 returns : tie.Need-returns
 returns c =
     let space = c .before .before in
@@ -47,11 +26,11 @@ pub put-sheet-word-spec : {M : Type 1} → statement M
 put-sheet-word-spec =
     tie.close
     (tie.spec
-    put-byte-requires
-    put-byte-requires-2
-    put-byte-requires-3
-    put-byte-requires-4
-    put-byte-requires-5
-    put-byte-requires-6
-    same-length
+    (λ c κs. search needs)
+    (λ c κs. search needs)
+    (λ c κs. search needs)
+    (λ c κs. search needs)
+    (λ c κs. search needs)
+    (λ c κs. search needs)
+    (λ c. search needs)
     returns)

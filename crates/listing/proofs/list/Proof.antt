@@ -13,18 +13,6 @@ use Rattle.rules.specs.Listing.{listingOf}
 use Rattle.listing.proofs.list.Statement.{statement}
 use Rattle.listing.proofs.list.Tie as tie
 
-sheet-answer-requires : tie.Need-sheet-answer-requires
-sheet-answer-requires c κs = search needs
-
-enum-told : tie.Need-enum-told
-enum-told c = search needs
-
-sheet-number-requires : tie.Need-sheet-number-requires
-sheet-number-requires c κs = search needs
-
-put-sheet-line-requires : tie.Need-put-sheet-line-requires
-put-sheet-line-requires c κs = search needs
-
 returns : tie.Need-returns
 returns c =
     let k : length (sheetLine (c .before .sheet-number .result)) ≤ 27 = sheet-line-length (c .before .sheet-number .result) in
@@ -35,21 +23,12 @@ returns c =
     (listing-refused (c .before .before .before .before .before .before .args .sheet .now) (c .before .before .before .before .sheet-answer .result) (c .before .before .before .before .sheet-answer .ensures) (c .before .before .before .match .keys2)) in
     (rw q at (c .put-sheet-line .ensures), omega (arith, c .put-sheet-line .kept .0))
 
-sheet-records-requires : tie.Need-sheet-records-requires
-sheet-records-requires c κs = search needs
-
-slice-aggregate-run : tie.Need-slice-aggregate-run
-slice-aggregate-run c = search needs
-
 run-requires : tie.Need-run-requires
 run-requires c κs =
     let sheet = c .before .before .before .before .before .before .args .sheet .now in
     let taken = sym (c .before .before .before .before .sheet-answer .ensures) ∙ c .before .before .enum-told .given .1 in
     let few : length (c .before .sheet-records .result .now) / 16 ≤ 4095 = rw (c .before .sheet-records .ensures) (taken-few sheet taken) in
     (omega arith, omega (arith, few))
-
-slice-aggregate-put-lines : tie.Need-slice-aggregate-put-lines
-slice-aggregate-put-lines c = search needs
 
 put-lines-requires : tie.Need-put-lines-requires
 put-lines-requires c κs =
@@ -78,14 +57,14 @@ pub list-spec : {M : Type 1} → statement M
 list-spec =
     tie.close
     (tie.spec
-    sheet-answer-requires
-    enum-told
-    sheet-number-requires
-    put-sheet-line-requires
+    (λ c κs. search needs)
+    (λ c. search needs)
+    (λ c κs. search needs)
+    (λ c κs. search needs)
     returns
-    sheet-records-requires
-    slice-aggregate-run
+    (λ c κs. search needs)
+    (λ c. search needs)
     run-requires
-    slice-aggregate-put-lines
+    (λ c. search needs)
     put-lines-requires
     returns-2)

@@ -24,39 +24,6 @@ loop-holds : tie.Need-loop-holds Inv-loop μ-loop
 unfolding printedUpTo
 loop-holds c = (put-none _ 0, search needs, search needs, refl)
 
-add-put-line : tie.Need-add-put-line Inv-loop μ-loop
-add-put-line c = search needs
-
-mul-put-line : tie.Need-mul-put-line Inv-loop μ-loop
-mul-put-line c = search needs
-
-mul-put-line-2 : tie.Need-mul-put-line-2 Inv-loop μ-loop
-mul-put-line-2 c = search needs
-
-shared-slice-read-put-line : tie.Need-shared-slice-read-put-line Inv-loop μ-loop
-shared-slice-read-put-line c = search needs
-
-mul-put-line-3 : tie.Need-mul-put-line-3 Inv-loop μ-loop
-mul-put-line-3 c = search needs
-
-add-put-line-2 : tie.Need-add-put-line-2 Inv-loop μ-loop
-add-put-line-2 c = search needs
-
-mul-put-line-4 : tie.Need-mul-put-line-4 Inv-loop μ-loop
-mul-put-line-4 c = search needs
-
-shared-slice-read-put-line-2 : tie.Need-shared-slice-read-put-line-2 Inv-loop μ-loop
-shared-slice-read-put-line-2 c = search needs
-
-put-line-requires : tie.Need-put-line-requires Inv-loop μ-loop
-put-line-requires c κs = search needs
-
-add-i : tie.Need-add-i Inv-loop μ-loop
-add-i c = search needs
-
-loop-less : tie.Need-loop-less Inv-loop μ-loop
-loop-less c = search needs
-
 loop-again : tie.Need-loop-again Inv-loop μ-loop
 loop-again c =
     let line = c .before .before .put-line in
@@ -73,9 +40,6 @@ loop-again c =
     let j = printed-next part (loop .i) number value (held .number (loop .i) (test .loop-test .taken)) (held .value (loop .i) (test .loop-test .taken)) in
     (rw j at (put-both zero-le (loop .inv .0) (line .ensures)), omega arith, omega arith, line .kept .0 ∙ loop .inv .3)
 
-same-length : tie.Need-same-length Inv-loop μ-loop
-same-length c = search needs
-
 returns : tie.Need-returns Inv-loop μ-loop
 returns c =
     let e : c .before .loop .i ≡ c .before .before .before .before .before .args .n = omega arith in
@@ -88,17 +52,17 @@ put-lines-spec =
     Inv-loop
     μ-loop
     loop-holds
-    add-put-line
-    mul-put-line
-    mul-put-line-2
-    shared-slice-read-put-line
-    mul-put-line-3
-    add-put-line-2
-    mul-put-line-4
-    shared-slice-read-put-line-2
-    put-line-requires
-    add-i
-    loop-less
+    (λ c. search needs)
+    (λ c. search needs)
+    (λ c. search needs)
+    (λ c. search needs)
+    (λ c. search needs)
+    (λ c. search needs)
+    (λ c. search needs)
+    (λ c. search needs)
+    (λ c κs. search needs)
+    (λ c. search needs)
+    (λ c. search needs)
     loop-again
-    same-length
+    (λ c. search needs)
     returns)

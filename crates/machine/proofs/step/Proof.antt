@@ -6,14 +6,8 @@ use Rattle.rules.specs.Machine.{stepOf}
 use Rattle.machine.proofs.step.Statement.{statement}
 use Rattle.machine.proofs.step.Tie as tie
 
-in-range-requires : tie.Need-in-range-requires
-in-range-requires c κs = search needs
-
 step-in-range-requires : tie.Need-step-in-range-requires
 step-in-range-requires c κs = sym (c .before .in-range .ensures) ∙ c .if1 .taken
-
-out-of-range-requires : tie.Need-out-of-range-requires
-out-of-range-requires c κs = search needs
 
 returns : tie.Need-returns
 unfolding stepOf firstOf
@@ -26,4 +20,4 @@ returns-2 c = rw (c .out-of-range .ensures, ← c .before .before .in-range .ens
 pub step-spec : {M : Type 1} → statement M
 step-spec =
     tie.close
-    (tie.spec in-range-requires step-in-range-requires out-of-range-requires returns returns-2)
+    (tie.spec (λ c κs. search needs) step-in-range-requires (λ c κs. search needs) returns returns-2)

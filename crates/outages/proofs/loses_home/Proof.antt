@@ -3,11 +3,8 @@ use borrow.Author.Needs.{needs}
 use Rattle.outages.proofs.loses_home.Statement.{statement}
 use Rattle.outages.proofs.loses_home.Tie as tie
 
-is-running-requires : tie.Need-is-running-requires
-is-running-requires c κs = search needs
-
 returns : tie.Need-returns
 returns c = rw (c .before .is-running .ensures)
 
 pub loses-home-spec : {M : Type 1} → statement M
-loses-home-spec = tie.close (tie.spec is-running-requires returns)
+loses-home-spec = tie.close (tie.spec (λ c κs. search needs) returns)

@@ -3,11 +3,8 @@ use borrow.Author.Needs.{needs}
 use Rattle.passages.proofs.begun_passage.Statement.{statement}
 use Rattle.passages.proofs.begun_passage.Tie as tie
 
-no-round-requires : tie.Need-no-round-requires
-no-round-requires c κs = search needs
-
 returns : tie.Need-returns
 returns c = rw (c .no-round .ensures)
 
 pub begun-passage-spec : {M : Type 1} → statement M
-begun-passage-spec = tie.close (tie.spec no-round-requires returns)
+begun-passage-spec = tie.close (tie.spec (λ c κs. search needs) returns)

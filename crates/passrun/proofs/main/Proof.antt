@@ -5,51 +5,24 @@ use borrow.Author.Needs.{needs}
 use Rattle.passrun.proofs.main.Statement.{statement}
 use Rattle.passrun.proofs.main.Tie as tie
 
-slice-aggregate-read-full : tie.Need-slice-aggregate-read-full
-slice-aggregate-read-full c = search needs
-
-read-full-requires : tie.Need-read-full-requires
-read-full-requires c κs = search needs
-
-at-end-requires : tie.Need-at-end-requires
-at-end-requires c κs = search needs
-
-returns : tie.Need-returns
-returns c = search needs
-
-array-share-prefix-sheet : tie.Need-array-share-prefix-sheet
-array-share-prefix-sheet c = search needs
-
-slice-aggregate-list : tie.Need-slice-aggregate-list
-slice-aggregate-list c = search needs
-
-list-requires : tie.Need-list-requires
-list-requires c κs = search needs
-
 array-share-prefix-out : tie.Need-array-share-prefix-out
 array-share-prefix-out c = c .list .ensures .1
 
 slice-aggregate-write-all : tie.Need-slice-aggregate-write-all
 slice-aggregate-write-all c = sym (length-take-le (c .before .list .result) (c .before .list .last .1 .0) (c .before .list .ensures .1))
 
-write-all-requires : tie.Need-write-all-requires
-write-all-requires c κs = search needs
-
-returns-2 : tie.Need-returns-2
-returns-2 c = search needs
-
 pub main-spec : {M : Type 1} → statement M
 main-spec =
     tie.close
     (tie.spec
-    slice-aggregate-read-full
-    read-full-requires
-    at-end-requires
-    returns
-    array-share-prefix-sheet
-    slice-aggregate-list
-    list-requires
+    (λ c. search needs)
+    (λ c κs. search needs)
+    (λ c κs. search needs)
+    (λ c. search needs)
+    (λ c. search needs)
+    (λ c. search needs)
+    (λ c κs. search needs)
     array-share-prefix-out
     slice-aggregate-write-all
-    write-all-requires
-    returns-2)
+    (λ c κs. search needs)
+    (λ c. search needs))

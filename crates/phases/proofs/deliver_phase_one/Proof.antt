@@ -5,21 +5,6 @@ use Rattle.rules.specs.Calls.{deliverPhaseOneOf}
 use Rattle.phases.proofs.deliver_phase_one.Statement.{statement}
 use Rattle.phases.proofs.deliver_phase_one.Tie as tie
 
-mail-clock-requires : tie.Need-mail-clock-requires
-mail-clock-requires c κs = search needs
-
-asks-life-requires : tie.Need-asks-life-requires
-asks-life-requires c κs = search needs
-
-round-answer-requires : tie.Need-round-answer-requires
-round-answer-requires c κs = search needs
-
-asked-at-requires : tie.Need-asked-at-requires
-asked-at-requires c κs = search needs
-
-settle-requires : tie.Need-settle-requires
-settle-requires c κs = search needs
-
 returns : tie.Need-returns
 unfolding deliverPhaseOneOf firstOf
 returns c = rw (c .settle .ensures, c .before .asked-at .ensures, c .before .before .round-answer .ensures, c .before .before .before .before .asks-life .ensures, c .before .before .before .before .before .before .mail-clock .ensures)
@@ -28,9 +13,9 @@ pub deliver-phase-one-spec : {M : Type 1} → statement M
 deliver-phase-one-spec =
     tie.close
     (tie.spec
-    mail-clock-requires
-    asks-life-requires
-    round-answer-requires
-    asked-at-requires
-    settle-requires
+    (λ c κs. search needs)
+    (λ c κs. search needs)
+    (λ c κs. search needs)
+    (λ c κs. search needs)
+    (λ c κs. search needs)
     returns)

@@ -3,15 +3,6 @@ use borrow.Author.Needs.{needs}
 use Rattle.phases.proofs.reply_of.Statement.{statement}
 use Rattle.phases.proofs.reply_of.Tie as tie
 
-at-home-requires : tie.Need-at-home-requires
-at-home-requires c κs = search needs
-
-no-message-requires : tie.Need-no-message-requires
-no-message-requires c κs = search needs
-
-answer-message-requires : tie.Need-answer-message-requires
-answer-message-requires c κs = search needs
-
 returns : tie.Need-returns
 returns c = rw (c .no-message .ensures, ← c .before .before .at-home .ensures, c .before .if1 .taken)
 
@@ -21,4 +12,4 @@ returns-2 c = rw (c .answer-message .ensures, ← c .before .before .at-home .en
 pub reply-of-spec : {M : Type 1} → statement M
 reply-of-spec =
     tie.close
-    (tie.spec at-home-requires no-message-requires answer-message-requires returns returns-2)
+    (tie.spec (λ c κs. search needs) (λ c κs. search needs) (λ c κs. search needs) returns returns-2)

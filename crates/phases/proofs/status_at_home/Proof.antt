@@ -3,12 +3,6 @@ use borrow.Author.Needs.{needs}
 use Rattle.phases.proofs.status_at_home.Statement.{statement}
 use Rattle.phases.proofs.status_at_home.Tie as tie
 
-at-home-requires : tie.Need-at-home-requires
-at-home-requires c κs = search needs
-
-with-status-requires : tie.Need-with-status-requires
-with-status-requires c κs = search needs
-
 returns : tie.Need-returns
 returns c = rw (c .with-status .ensures, ← c .before .before .at-home .ensures, c .before .if1 .taken)
 
@@ -16,4 +10,4 @@ returns-2 : tie.Need-returns-2
 returns-2 c = rw (← c .before .at-home .ensures, c .if1 .left)
 
 pub status-at-home-spec : {M : Type 1} → statement M
-status-at-home-spec = tie.close (tie.spec at-home-requires with-status-requires returns returns-2)
+status-at-home-spec = tie.close (tie.spec (λ c κs. search needs) (λ c κs. search needs) returns returns-2)

@@ -21,21 +21,6 @@ loop-holds : tie.Need-loop-holds Inv-loop μ-loop
 unfolding everyUpTo
 loop-holds c = (refl, search needs)
 
-mul-figures-in-range : tie.Need-mul-figures-in-range Inv-loop μ-loop
-mul-figures-in-range c = search needs
-
-array-copy-out-figures-in-range : tie.Need-array-copy-out-figures-in-range Inv-loop μ-loop
-array-copy-out-figures-in-range c = search needs
-
-figures-in-range-requires : tie.Need-figures-in-range-requires Inv-loop μ-loop
-figures-in-range-requires c κs = search needs
-
-add-s : tie.Need-add-s Inv-loop μ-loop
-add-s c = search needs
-
-loop-less : tie.Need-loop-less Inv-loop μ-loop
-loop-less c = search needs
-
 loop-again : tie.Need-loop-again Inv-loop μ-loop
 unfolding everyUpTo
 loop-again c = (rw (add-one, c .figures-in-range .ensures, ← c .before .before .before .loop .inv .0), search needs)
@@ -51,10 +36,10 @@ all-figures-in-range-spec =
     Inv-loop
     μ-loop
     loop-holds
-    mul-figures-in-range
-    array-copy-out-figures-in-range
-    figures-in-range-requires
-    add-s
-    loop-less
+    (λ c. search needs)
+    (λ c. search needs)
+    (λ c κs. search needs)
+    (λ c. search needs)
+    (λ c. search needs)
     loop-again
     returns)

@@ -3,33 +3,6 @@ use borrow.Author.Needs.{needs}
 use Rattle.ranges.proofs.body_in_range.Statement.{statement}
 use Rattle.ranges.proofs.body_in_range.Tie as tie
 
-enum-told : tie.Need-enum-told
-enum-told c = search needs
-
-enum-known-b : tie.Need-enum-known-b
-enum-known-b c = search needs
-
-call-in-range-requires : tie.Need-call-in-range-requires
-call-in-range-requires c κs = search needs
-
-enum-known-b-2 : tie.Need-enum-known-b-2
-enum-known-b-2 c = search needs
-
-asked-in-range-requires : tie.Need-asked-in-range-requires
-asked-in-range-requires c κs = search needs
-
-enum-known-b-3 : tie.Need-enum-known-b-3
-enum-known-b-3 c = search needs
-
-told-in-range-requires : tie.Need-told-in-range-requires
-told-in-range-requires c κs = search needs
-
-enum-known-b-4 : tie.Need-enum-known-b-4
-enum-known-b-4 c = search needs
-
-returns : tie.Need-returns
-returns c = search needs
-
 returns-2 : tie.Need-returns-2
 returns-2 c = rw (c .call-in-range .ensures, c .before .before .b .given .1)
 
@@ -46,15 +19,15 @@ pub body-in-range-spec : {M : Type 1} → statement M
 body-in-range-spec =
     tie.close
     (tie.spec
-    enum-told
-    enum-known-b
-    call-in-range-requires
-    enum-known-b-2
-    asked-in-range-requires
-    enum-known-b-3
-    told-in-range-requires
-    enum-known-b-4
-    returns
+    (λ c. search needs)
+    (λ c. search needs)
+    (λ c κs. search needs)
+    (λ c. search needs)
+    (λ c κs. search needs)
+    (λ c. search needs)
+    (λ c κs. search needs)
+    (λ c. search needs)
+    (λ c. search needs)
     returns-2
     returns-3
     returns-4

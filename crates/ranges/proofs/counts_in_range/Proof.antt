@@ -22,18 +22,6 @@ loop-holds : tie.Need-loop-holds Inv-loop μ-loop
 unfolding everyUpTo
 loop-holds c = (refl, search needs)
 
-mul-ok : tie.Need-mul-ok Inv-loop μ-loop
-mul-ok c = search needs
-
-array-read-ok : tie.Need-array-read-ok Inv-loop μ-loop
-array-read-ok c = search needs
-
-add-d : tie.Need-add-d Inv-loop μ-loop
-add-d c = search needs
-
-loop-less : tie.Need-loop-less Inv-loop μ-loop
-loop-less c = search needs
-
 loop-again : tie.Need-loop-again Inv-loop μ-loop
 unfolding everyUpTo
 loop-again c = (rw (add-one, ← c .before .loop .inv .0), search needs)
@@ -46,4 +34,4 @@ returns c =
 pub counts-in-range-spec : {M : Type 1} → statement M
 counts-in-range-spec =
     tie.close
-    (tie.spec Inv-loop μ-loop loop-holds mul-ok array-read-ok add-d loop-less loop-again returns)
+    (tie.spec Inv-loop μ-loop loop-holds (λ c. search needs) (λ c. search needs) (λ c. search needs) (λ c. search needs) loop-again returns)

@@ -21,21 +21,6 @@ loop-holds : tie.Need-loop-holds Inv-loop μ-loop
 unfolding everyUpTo
 loop-holds c = (refl, search needs)
 
-mul-message-in-range : tie.Need-mul-message-in-range Inv-loop μ-loop
-mul-message-in-range c = search needs
-
-array-copy-out-message-in-range : tie.Need-array-copy-out-message-in-range Inv-loop μ-loop
-array-copy-out-message-in-range c = search needs
-
-message-in-range-requires : tie.Need-message-in-range-requires Inv-loop μ-loop
-message-in-range-requires c κs = search needs
-
-add-i : tie.Need-add-i Inv-loop μ-loop
-add-i c = search needs
-
-loop-less : tie.Need-loop-less Inv-loop μ-loop
-loop-less c = search needs
-
 loop-again : tie.Need-loop-again Inv-loop μ-loop
 unfolding everyUpTo
 loop-again c = (rw (add-one, c .message-in-range .ensures, ← c .before .before .before .loop .inv .0), search needs)
@@ -51,10 +36,10 @@ messages-in-range-spec =
     Inv-loop
     μ-loop
     loop-holds
-    mul-message-in-range
-    array-copy-out-message-in-range
-    message-in-range-requires
-    add-i
-    loop-less
+    (λ c. search needs)
+    (λ c. search needs)
+    (λ c κs. search needs)
+    (λ c. search needs)
+    (λ c. search needs)
     loop-again
     returns)

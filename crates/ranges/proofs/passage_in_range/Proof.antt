@@ -3,11 +3,8 @@ use borrow.Author.Needs.{needs}
 use Rattle.ranges.proofs.passage_in_range.Statement.{statement}
 use Rattle.ranges.proofs.passage_in_range.Tie as tie
 
-round-in-range-requires : tie.Need-round-in-range-requires
-round-in-range-requires c κs = search needs
-
 returns : tie.Need-returns
 returns c = rw (c .round-in-range .ensures)
 
 pub passage-in-range-spec : {M : Type 1} → statement M
-passage-in-range-spec = tie.close (tie.spec round-in-range-requires returns)
+passage-in-range-spec = tie.close (tie.spec (λ c κs. search needs) returns)

@@ -3,11 +3,8 @@ use borrow.Author.Needs.{needs}
 use Rattle.ranges.proofs.visit_in_range.Statement.{statement}
 use Rattle.ranges.proofs.visit_in_range.Tie as tie
 
-counts-in-range-requires : tie.Need-counts-in-range-requires
-counts-in-range-requires c κs = search needs
-
 returns : tie.Need-returns
 returns c = rw (c .before .counts-in-range .ensures)
 
 pub visit-in-range-spec : {M : Type 1} → statement M
-visit-in-range-spec = tie.close (tie.spec counts-in-range-requires returns)
+visit-in-range-spec = tie.close (tie.spec (λ c κs. search needs) returns)

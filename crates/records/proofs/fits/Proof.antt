@@ -3,11 +3,8 @@ use borrow.Author.Needs.{needs}
 use Rattle.records.proofs.fits.Statement.{statement}
 use Rattle.records.proofs.fits.Tie as tie
 
-is-named-requires : tie.Need-is-named-requires
-is-named-requires c κs = search needs
-
 returns : tie.Need-returns
 returns c = rw (c .is-named .ensures)
 
 pub fits-spec : {M : Type 1} → statement M
-fits-spec = tie.close (tie.spec is-named-requires returns)
+fits-spec = tie.close (tie.spec (λ c κs. search needs) returns)

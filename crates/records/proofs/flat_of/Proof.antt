@@ -3,102 +3,6 @@ use borrow.Author.Needs.{needs}
 use Rattle.records.proofs.flat_of.Statement.{statement}
 use Rattle.records.proofs.flat_of.Tie as tie
 
-enum-known-step : tie.Need-enum-known-step
-enum-known-step c = search needs
-
-flat-requires : tie.Need-flat-requires
-flat-requires c κs = search needs
-
-enum-known-step-2 : tie.Need-enum-known-step-2
-enum-known-step-2 c = search needs
-
-flat-requires-2 : tie.Need-flat-requires-2
-flat-requires-2 c κs = search needs
-
-enum-known-step-3 : tie.Need-enum-known-step-3
-enum-known-step-3 c = search needs
-
-flat-requires-3 : tie.Need-flat-requires-3
-flat-requires-3 c κs = search needs
-
-enum-known-step-4 : tie.Need-enum-known-step-4
-enum-known-step-4 c = search needs
-
-flat-requires-4 : tie.Need-flat-requires-4
-flat-requires-4 c κs = search needs
-
-enum-known-step-5 : tie.Need-enum-known-step-5
-enum-known-step-5 c = search needs
-
-flat-requires-5 : tie.Need-flat-requires-5
-flat-requires-5 c κs = search needs
-
-enum-known-step-6 : tie.Need-enum-known-step-6
-enum-known-step-6 c = search needs
-
-flat-requires-6 : tie.Need-flat-requires-6
-flat-requires-6 c κs = search needs
-
-enum-known-step-7 : tie.Need-enum-known-step-7
-enum-known-step-7 c = search needs
-
-flat-requires-7 : tie.Need-flat-requires-7
-flat-requires-7 c κs = search needs
-
-enum-known-step-8 : tie.Need-enum-known-step-8
-enum-known-step-8 c = search needs
-
-flat-requires-8 : tie.Need-flat-requires-8
-flat-requires-8 c κs = search needs
-
-enum-known-step-9 : tie.Need-enum-known-step-9
-enum-known-step-9 c = search needs
-
-flat-requires-9 : tie.Need-flat-requires-9
-flat-requires-9 c κs = search needs
-
-enum-known-step-10 : tie.Need-enum-known-step-10
-enum-known-step-10 c = search needs
-
-flat-requires-10 : tie.Need-flat-requires-10
-flat-requires-10 c κs = search needs
-
-enum-known-step-11 : tie.Need-enum-known-step-11
-enum-known-step-11 c = search needs
-
-flat-requires-11 : tie.Need-flat-requires-11
-flat-requires-11 c κs = search needs
-
-enum-known-step-12 : tie.Need-enum-known-step-12
-enum-known-step-12 c = search needs
-
-flat-requires-12 : tie.Need-flat-requires-12
-flat-requires-12 c κs = search needs
-
-enum-known-step-13 : tie.Need-enum-known-step-13
-enum-known-step-13 c = search needs
-
-flat-requires-13 : tie.Need-flat-requires-13
-flat-requires-13 c κs = search needs
-
-enum-known-step-14 : tie.Need-enum-known-step-14
-enum-known-step-14 c = search needs
-
-flat-requires-14 : tie.Need-flat-requires-14
-flat-requires-14 c κs = search needs
-
-enum-known-step-15 : tie.Need-enum-known-step-15
-enum-known-step-15 c = search needs
-
-flat-requires-15 : tie.Need-flat-requires-15
-flat-requires-15 c κs = search needs
-
-enum-known-step-16 : tie.Need-enum-known-step-16
-enum-known-step-16 c = search needs
-
-flat-requires-16 : tie.Need-flat-requires-16
-flat-requires-16 c κs = search needs
-
 returns : tie.Need-returns
 returns c = rw (c .flat .ensures, c .before .before .step .given .1)
 
@@ -151,38 +55,38 @@ pub flat-of-spec : {M : Type 1} → statement M
 flat-of-spec =
     tie.close
     (tie.spec
-    enum-known-step
-    flat-requires
-    enum-known-step-2
-    flat-requires-2
-    enum-known-step-3
-    flat-requires-3
-    enum-known-step-4
-    flat-requires-4
-    enum-known-step-5
-    flat-requires-5
-    enum-known-step-6
-    flat-requires-6
-    enum-known-step-7
-    flat-requires-7
-    enum-known-step-8
-    flat-requires-8
-    enum-known-step-9
-    flat-requires-9
-    enum-known-step-10
-    flat-requires-10
-    enum-known-step-11
-    flat-requires-11
-    enum-known-step-12
-    flat-requires-12
-    enum-known-step-13
-    flat-requires-13
-    enum-known-step-14
-    flat-requires-14
-    enum-known-step-15
-    flat-requires-15
-    enum-known-step-16
-    flat-requires-16
+    (λ c. search needs)
+    (λ c κs. search needs)
+    (λ c. search needs)
+    (λ c κs. search needs)
+    (λ c. search needs)
+    (λ c κs. search needs)
+    (λ c. search needs)
+    (λ c κs. search needs)
+    (λ c. search needs)
+    (λ c κs. search needs)
+    (λ c. search needs)
+    (λ c κs. search needs)
+    (λ c. search needs)
+    (λ c κs. search needs)
+    (λ c. search needs)
+    (λ c κs. search needs)
+    (λ c. search needs)
+    (λ c κs. search needs)
+    (λ c. search needs)
+    (λ c κs. search needs)
+    (λ c. search needs)
+    (λ c κs. search needs)
+    (λ c. search needs)
+    (λ c κs. search needs)
+    (λ c. search needs)
+    (λ c κs. search needs)
+    (λ c. search needs)
+    (λ c κs. search needs)
+    (λ c. search needs)
+    (λ c κs. search needs)
+    (λ c. search needs)
+    (λ c κs. search needs)
     returns
     returns-2
     returns-3

@@ -4,15 +4,9 @@ use Rattle.rules.specs.Record.{stepOfRecord}
 use Rattle.records.proofs.read_record.Statement.{statement}
 use Rattle.records.proofs.read_record.Tie as tie
 
-fields-of-requires : tie.Need-fields-of-requires
-fields-of-requires c κs = search needs
-
-step-of-fields-requires : tie.Need-step-of-fields-requires
-step-of-fields-requires c κs = search needs
-
 returns : tie.Need-returns
 unfolding stepOfRecord
 returns c = rw (c .step-of-fields .ensures, c .before .fields-of .ensures)
 
 pub read-record-spec : {M : Type 1} → statement M
-read-record-spec = tie.close (tie.spec fields-of-requires step-of-fields-requires returns)
+read-record-spec = tie.close (tie.spec (λ c κs. search needs) (λ c κs. search needs) returns)

@@ -5,14 +5,8 @@ use mathlib.Core.Path.{refl}
 use Rattle.records.proofs.row_of.Statement.{statement}
 use Rattle.records.proofs.row_of.Tie as tie
 
-sub-result : tie.Need-sub-result
-sub-result c = search needs
-
-array-read-result : tie.Need-array-read-result
-array-read-result c = search needs
-
 returns : tie.Need-returns
 returns c = refl
 
 pub row-of-spec : {M : Type 1} → statement M
-row-of-spec = tie.close (tie.spec sub-result array-read-result returns)
+row-of-spec = tie.close (tie.spec (λ c. search needs) (λ c. search needs) returns)

@@ -5,15 +5,6 @@ use Rattle.rules.specs.RecordLaws.{last-left}
 use Rattle.records.proofs.step_of_code.Statement.{statement}
 use Rattle.records.proofs.step_of_code.Tie as tie
 
-begin-requires : tie.Need-begin-requires
-begin-requires c κs = search needs
-
-invoke-requires : tie.Need-invoke-requires
-invoke-requires c κs = search needs
-
-refresh-requires : tie.Need-refresh-requires
-refresh-requires c κs = search needs
-
 returns : tie.Need-returns
 returns c = rw (c .match .keys1)
 
@@ -67,9 +58,9 @@ pub step-of-code-spec : {M : Type 1} → statement M
 step-of-code-spec =
     tie.close
     (tie.spec
-    begin-requires
-    invoke-requires
-    refresh-requires
+    (λ c κs. search needs)
+    (λ c κs. search needs)
+    (λ c κs. search needs)
     returns
     returns-2
     returns-3

@@ -6,9 +6,6 @@ use Rattle.rules.specs.RecordLaws.{code-known}
 use Rattle.records.proofs.step_of_fields.Statement.{statement}
 use Rattle.records.proofs.step_of_fields.Tie as tie
 
-is-code-requires : tie.Need-is-code-requires
-is-code-requires c κs = search needs
-
 fields-fit-requires : tie.Need-fields-fit-requires
 fields-fit-requires c κs =
     code-known (c .before .before .args .f .code) (rw (c .before .is-code .ensures) at (c .if1 .taken))
@@ -33,7 +30,7 @@ pub step-of-fields-spec : {M : Type 1} → statement M
 step-of-fields-spec =
     tie.close
     (tie.spec
-    is-code-requires
+    (λ c κs. search needs)
     fields-fit-requires
     step-of-code-requires
     returns

@@ -5,14 +5,8 @@ use Rattle.rules.specs.Record.{recordOfStep}
 use Rattle.records.proofs.write_record.Statement.{statement}
 use Rattle.records.proofs.write_record.Tie as tie
 
-flat-of-requires : tie.Need-flat-of-requires
-flat-of-requires c κs = search needs
-
 kept-fields-requires : tie.Need-kept-fields-requires
 kept-fields-requires c κs = rw (c .flat-of .ensures) (flat-code (c .before .args .s))
-
-bytes-of-requires : tie.Need-bytes-of-requires
-bytes-of-requires c κs = search needs
 
 returns : tie.Need-returns
 unfolding recordOfStep
@@ -20,4 +14,4 @@ returns c = rw (c .bytes-of .ensures, c .before .kept-fields .ensures, c .before
 
 pub write-record-spec : {M : Type 1} → statement M
 write-record-spec =
-    tie.close (tie.spec flat-of-requires kept-fields-requires bytes-of-requires returns)
+    tie.close (tie.spec (λ c κs. search needs) kept-fields-requires (λ c κs. search needs) returns)

@@ -20,34 +20,10 @@ accepted-two a v e = rw e
 refused-two : (a : Answer) {r : Refusal} → a ≡ Answer.Refused r → (answerNumber a ∷ 0 ∷ []) ≡ (answerNumber a ∷ answerValue a ∷ [])
 refused-two a e = rw e
 
-enum-known-answer : tie.Need-enum-known-answer
-enum-known-answer c = search needs
-
-enum-told : tie.Need-enum-told
-enum-told c = search needs
-
-answer-number-requires : tie.Need-answer-number-requires
-answer-number-requires c κs = search needs
-
-mul-out : tie.Need-mul-out
-mul-out c = search needs
-
-slice-write-out : tie.Need-slice-write-out
-slice-write-out c = search needs
-
-add-out : tie.Need-add-out
-add-out c = search needs
-
-mul-out-2 : tie.Need-mul-out-2
-mul-out-2 c = search needs
-
 slice-write-out-2 : tie.Need-slice-write-out-2
 slice-write-out-2 c =
     let start = c .before .before .before .before in
     rw (length-set (start .args .out .now) (start .args .at) (c .answer-number .result)) (omega (arith, start .pre))
-
-same-length : tie.Need-same-length
-same-length c = search needs
 
 returns : tie.Need-returns
 returns c =
@@ -55,25 +31,10 @@ returns c =
     rw (← refused-two (start .args .answer) (c .before .enum-told .given .1), ← c .answer-number .ensures)
     (put-two (start .args .out .now) (start .args .at) (c .answer-number .result) 0 (start .pre))
 
-mul-out-3 : tie.Need-mul-out-3
-mul-out-3 c = search needs
-
-slice-write-out-3 : tie.Need-slice-write-out-3
-slice-write-out-3 c = search needs
-
-add-out-2 : tie.Need-add-out-2
-add-out-2 c = search needs
-
-mul-out-4 : tie.Need-mul-out-4
-mul-out-4 c = search needs
-
 slice-write-out-4 : tie.Need-slice-write-out-4
 slice-write-out-4 c =
     let start = c .before .before .before .before in
     rw (length-set (start .args .out .now) (start .args .at) 0) (omega (arith, start .pre))
-
-same-length-2 : tie.Need-same-length-2
-same-length-2 c = search needs
 
 returns-2 : tie.Need-returns-2
 returns-2 c =
@@ -85,20 +46,20 @@ pub put-answer-spec : {M : Type 1} → statement M
 put-answer-spec =
     tie.close
     (tie.spec
-    enum-known-answer
-    enum-told
-    answer-number-requires
-    mul-out
-    slice-write-out
-    add-out
-    mul-out-2
+    (λ c. search needs)
+    (λ c. search needs)
+    (λ c κs. search needs)
+    (λ c. search needs)
+    (λ c. search needs)
+    (λ c. search needs)
+    (λ c. search needs)
     slice-write-out-2
-    same-length
+    (λ c. search needs)
     returns
-    mul-out-3
-    slice-write-out-3
-    add-out-2
-    mul-out-4
+    (λ c. search needs)
+    (λ c. search needs)
+    (λ c. search needs)
+    (λ c. search needs)
     slice-write-out-4
-    same-length-2
+    (λ c. search needs)
     returns-2)

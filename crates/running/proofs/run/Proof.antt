@@ -50,76 +50,15 @@ abbrev μ-loop : tie.MeasureT-loop
 μ-loop part n out₀ t₀ i₀ out t i =
     n - i
 
-start-requires : tie.Need-start-requires Inv-loop2 μ-loop2 Inv-loop3 μ-loop3 Inv-loop μ-loop
-start-requires c κs = search needs
-
 loop-holds : tie.Need-loop-holds Inv-loop2 μ-loop2 Inv-loop3 μ-loop3 Inv-loop μ-loop
 unfolding printedUpTo answeredUpTo
 loop-holds c = (c .start .ensures, put-none _ 0, search needs, refl)
-
-record-at-requires :
-    tie.Need-record-at-requires Inv-loop2 μ-loop2 Inv-loop3 μ-loop3 Inv-loop μ-loop
-record-at-requires c κs = search needs
-
-read-record-requires :
-    tie.Need-read-record-requires Inv-loop2 μ-loop2 Inv-loop3 μ-loop3 Inv-loop μ-loop
-read-record-requires c κs = search needs
-
-reading-look-requires :
-    tie.Need-reading-look-requires Inv-loop2 μ-loop2 Inv-loop3 μ-loop3 Inv-loop μ-loop
-reading-look-requires c κs = search needs
-
-scan-count-requires :
-    tie.Need-scan-count-requires Inv-loop2 μ-loop2 Inv-loop3 μ-loop3 Inv-loop μ-loop
-scan-count-requires c κs = search needs
-
-element-copy-out-message0 :
-    tie.Need-element-copy-out-message0 Inv-loop2 μ-loop2 Inv-loop3 μ-loop3 Inv-loop μ-loop
-element-copy-out-message0 c = search needs
-
-slot-place-requires :
-    tie.Need-slot-place-requires Inv-loop2 μ-loop2 Inv-loop3 μ-loop3 Inv-loop μ-loop
-slot-place-requires c κs = search needs
 
 loop2-holds : tie.Need-loop2-holds Inv-loop2 μ-loop2 Inv-loop3 μ-loop3 Inv-loop μ-loop
 unfolding firstUpTo someUpTo
 loop2-holds c =
     let counted = c .before .before .scan-count in
     (refl, refl, search needs, rw (counted .ensures) (scan-most (c .before .before .before .before .read-record .result)))
-
-mul-v : tie.Need-mul-v Inv-loop2 μ-loop2 Inv-loop3 μ-loop3 Inv-loop μ-loop
-mul-v c = search needs
-
-add-v : tie.Need-add-v Inv-loop2 μ-loop2 Inv-loop3 μ-loop3 Inv-loop μ-loop
-add-v c = search needs
-
-mul-message : tie.Need-mul-message Inv-loop2 μ-loop2 Inv-loop3 μ-loop3 Inv-loop μ-loop
-mul-message c = search needs
-
-element-copy-out-message :
-    tie.Need-element-copy-out-message Inv-loop2 μ-loop2 Inv-loop3 μ-loop3 Inv-loop μ-loop
-element-copy-out-message c = search needs
-
-mul-visit : tie.Need-mul-visit Inv-loop2 μ-loop2 Inv-loop3 μ-loop3 Inv-loop μ-loop
-mul-visit c = search needs
-
-element-copy-out-visit :
-    tie.Need-element-copy-out-visit Inv-loop2 μ-loop2 Inv-loop3 μ-loop3 Inv-loop μ-loop
-element-copy-out-visit c = search needs
-
-first-next-requires :
-    tie.Need-first-next-requires Inv-loop2 μ-loop2 Inv-loop3 μ-loop3 Inv-loop μ-loop
-first-next-requires c κs = search needs
-
-rest-next-requires :
-    tie.Need-rest-next-requires Inv-loop2 μ-loop2 Inv-loop3 μ-loop3 Inv-loop μ-loop
-rest-next-requires c κs = search needs
-
-add-k : tie.Need-add-k Inv-loop2 μ-loop2 Inv-loop3 μ-loop3 Inv-loop μ-loop
-add-k c = search needs
-
-loop2-less : tie.Need-loop2-less Inv-loop2 μ-loop2 Inv-loop3 μ-loop3 Inv-loop μ-loop
-loop2-less c = search needs
 
 loop2-again : tie.Need-loop2-again Inv-loop2 μ-loop2 Inv-loop3 μ-loop3 Inv-loop μ-loop
 unfolding firstUpTo someUpTo
@@ -136,96 +75,6 @@ turn-look-requires c κs =
     let work = c .before .loop3 in
     let h : work .last ≤ 17 = working-most _ _ _ _ (work .turn) _ (work .inv) in
     omega arith
-
-mail-place-requires :
-    tie.Need-mail-place-requires Inv-loop2 μ-loop2 Inv-loop3 μ-loop3 Inv-loop μ-loop
-mail-place-requires c κs = search needs
-
-mul-message-2 : tie.Need-mul-message-2 Inv-loop2 μ-loop2 Inv-loop3 μ-loop3 Inv-loop μ-loop
-mul-message-2 c = search needs
-
-element-copy-out-message-2 :
-    tie.Need-element-copy-out-message-2 Inv-loop2 μ-loop2 Inv-loop3 μ-loop3 Inv-loop μ-loop
-element-copy-out-message-2 c = search needs
-
-slot-place-requires-2 :
-    tie.Need-slot-place-requires-2 Inv-loop2 μ-loop2 Inv-loop3 μ-loop3 Inv-loop μ-loop
-slot-place-requires-2 c κs = search needs
-
-mul-passage : tie.Need-mul-passage Inv-loop2 μ-loop2 Inv-loop3 μ-loop3 Inv-loop μ-loop
-mul-passage c = search needs
-
-element-copy-out-passage :
-    tie.Need-element-copy-out-passage Inv-loop2 μ-loop2 Inv-loop3 μ-loop3 Inv-loop μ-loop
-element-copy-out-passage c = search needs
-
-site-place-requires :
-    tie.Need-site-place-requires Inv-loop2 μ-loop2 Inv-loop3 μ-loop3 Inv-loop μ-loop
-site-place-requires c κs = search needs
-
-bank-place-requires :
-    tie.Need-bank-place-requires Inv-loop2 μ-loop2 Inv-loop3 μ-loop3 Inv-loop μ-loop
-bank-place-requires c κs = search needs
-
-mul-b : tie.Need-mul-b Inv-loop2 μ-loop2 Inv-loop3 μ-loop3 Inv-loop μ-loop
-mul-b c = search needs
-
-mul-v-2 : tie.Need-mul-v-2 Inv-loop2 μ-loop2 Inv-loop3 μ-loop3 Inv-loop μ-loop
-mul-v-2 c = search needs
-
-add-v-2 : tie.Need-add-v-2 Inv-loop2 μ-loop2 Inv-loop3 μ-loop3 Inv-loop μ-loop
-add-v-2 c = search needs
-
-mul-site : tie.Need-mul-site Inv-loop2 μ-loop2 Inv-loop3 μ-loop3 Inv-loop μ-loop
-mul-site c = search needs
-
-element-copy-out-site :
-    tie.Need-element-copy-out-site Inv-loop2 μ-loop2 Inv-loop3 μ-loop3 Inv-loop μ-loop
-element-copy-out-site c = search needs
-
-mul-visit-2 : tie.Need-mul-visit-2 Inv-loop2 μ-loop2 Inv-loop3 μ-loop3 Inv-loop μ-loop
-mul-visit-2 c = search needs
-
-element-copy-out-visit-2 :
-    tie.Need-element-copy-out-visit-2 Inv-loop2 μ-loop2 Inv-loop3 μ-loop3 Inv-loop μ-loop
-element-copy-out-visit-2 c = search needs
-
-mul-o0 : tie.Need-mul-o0 Inv-loop2 μ-loop2 Inv-loop3 μ-loop3 Inv-loop μ-loop
-mul-o0 c = search needs
-
-element-copy-out-o0 :
-    tie.Need-element-copy-out-o0 Inv-loop2 μ-loop2 Inv-loop3 μ-loop3 Inv-loop μ-loop
-element-copy-out-o0 c = search needs
-
-add-t84 : tie.Need-add-t84 Inv-loop2 μ-loop2 Inv-loop3 μ-loop3 Inv-loop μ-loop
-add-t84 c = search needs
-
-mul-t85 : tie.Need-mul-t85 Inv-loop2 μ-loop2 Inv-loop3 μ-loop3 Inv-loop μ-loop
-mul-t85 c = search needs
-
-element-copy-out-t88 :
-    tie.Need-element-copy-out-t88 Inv-loop2 μ-loop2 Inv-loop3 μ-loop3 Inv-loop μ-loop
-element-copy-out-t88 c = search needs
-
-add-t89 : tie.Need-add-t89 Inv-loop2 μ-loop2 Inv-loop3 μ-loop3 Inv-loop μ-loop
-add-t89 c = search needs
-
-mul-t90 : tie.Need-mul-t90 Inv-loop2 μ-loop2 Inv-loop3 μ-loop3 Inv-loop μ-loop
-mul-t90 c = search needs
-
-element-copy-out-t93 :
-    tie.Need-element-copy-out-t93 Inv-loop2 μ-loop2 Inv-loop3 μ-loop3 Inv-loop μ-loop
-element-copy-out-t93 c = search needs
-
-add-o1 : tie.Need-add-o1 Inv-loop2 μ-loop2 Inv-loop3 μ-loop3 Inv-loop μ-loop
-add-o1 c = search needs
-
-mul-o1 : tie.Need-mul-o1 Inv-loop2 μ-loop2 Inv-loop3 μ-loop3 Inv-loop μ-loop
-mul-o1 c = search needs
-
-element-copy-out-o1 :
-    tie.Need-element-copy-out-o1 Inv-loop2 μ-loop2 Inv-loop3 μ-loop3 Inv-loop μ-loop
-element-copy-out-o1 c = search needs
 
 decide-turn-requires :
     tie.Need-decide-turn-requires Inv-loop2 μ-loop2 Inv-loop3 μ-loop3 Inv-loop μ-loop
@@ -254,39 +103,6 @@ decide-turn-requires c κs =
       rw (looked .reading-look .ensures) (working-counts _ _ _ _ (work .turn) _ (work .inv)),
     )
 
-array-copy-out-o0 : tie.Need-array-copy-out-o0 Inv-loop2 μ-loop2 Inv-loop3 μ-loop3 Inv-loop μ-loop
-array-copy-out-o0 c = search needs
-
-array-copy-out-o1 : tie.Need-array-copy-out-o1 Inv-loop2 μ-loop2 Inv-loop3 μ-loop3 Inv-loop μ-loop
-array-copy-out-o1 c = search needs
-
-array-copy-out-o2 : tie.Need-array-copy-out-o2 Inv-loop2 μ-loop2 Inv-loop3 μ-loop3 Inv-loop μ-loop
-array-copy-out-o2 c = search needs
-
-array-copy-out-o3 : tie.Need-array-copy-out-o3 Inv-loop2 μ-loop2 Inv-loop3 μ-loop3 Inv-loop μ-loop
-array-copy-out-o3 c = search needs
-
-mul-site-left : tie.Need-mul-site-left Inv-loop2 μ-loop2 Inv-loop3 μ-loop3 Inv-loop μ-loop
-mul-site-left c = search needs
-
-element-set-from-site-left :
-    tie.Need-element-set-from-site-left Inv-loop2 μ-loop2 Inv-loop3 μ-loop3 Inv-loop μ-loop
-element-set-from-site-left c = search needs
-
-mul-passage-left : tie.Need-mul-passage-left Inv-loop2 μ-loop2 Inv-loop3 μ-loop3 Inv-loop μ-loop
-mul-passage-left c = search needs
-
-element-set-from-passage-left :
-    tie.Need-element-set-from-passage-left Inv-loop2 μ-loop2 Inv-loop3 μ-loop3 Inv-loop μ-loop
-element-set-from-passage-left c = search needs
-
-mul-visit-left : tie.Need-mul-visit-left Inv-loop2 μ-loop2 Inv-loop3 μ-loop3 Inv-loop μ-loop
-mul-visit-left c = search needs
-
-element-set-from-visit-left :
-    tie.Need-element-set-from-visit-left Inv-loop2 μ-loop2 Inv-loop3 μ-loop3 Inv-loop μ-loop
-element-set-from-visit-left c = search needs
-
 mul-message-left : tie.Need-mul-message-left Inv-loop2 μ-loop2 Inv-loop3 μ-loop3 Inv-loop μ-loop
 mul-message-left c =
     let mailed = c .before .before .before .before .before .before .before .before .before .before .before .before .before .before .before .before .before .before .before .before .before .before .mail-place in
@@ -299,47 +115,6 @@ element-set-from-message-left c =
     let mailed = c .before .before .before .before .before .before .before .before .before .before .before .before .before .before .before .before .before .before .before .before .before .before .mail-place in
     let h : mailed .result < 32 = mailed .ensures .1 in
     search needs
-
-mul-o0-2 : tie.Need-mul-o0-2 Inv-loop2 μ-loop2 Inv-loop3 μ-loop3 Inv-loop μ-loop
-mul-o0-2 c = search needs
-
-element-set-from-o0 :
-    tie.Need-element-set-from-o0 Inv-loop2 μ-loop2 Inv-loop3 μ-loop3 Inv-loop μ-loop
-element-set-from-o0 c = search needs
-
-add-o1-2 : tie.Need-add-o1-2 Inv-loop2 μ-loop2 Inv-loop3 μ-loop3 Inv-loop μ-loop
-add-o1-2 c = search needs
-
-mul-o1-2 : tie.Need-mul-o1-2 Inv-loop2 μ-loop2 Inv-loop3 μ-loop3 Inv-loop μ-loop
-mul-o1-2 c = search needs
-
-element-set-from-o1 :
-    tie.Need-element-set-from-o1 Inv-loop2 μ-loop2 Inv-loop3 μ-loop3 Inv-loop μ-loop
-element-set-from-o1 c = search needs
-
-add-o2 : tie.Need-add-o2 Inv-loop2 μ-loop2 Inv-loop3 μ-loop3 Inv-loop μ-loop
-add-o2 c = search needs
-
-mul-o2 : tie.Need-mul-o2 Inv-loop2 μ-loop2 Inv-loop3 μ-loop3 Inv-loop μ-loop
-mul-o2 c = search needs
-
-element-set-from-o2 :
-    tie.Need-element-set-from-o2 Inv-loop2 μ-loop2 Inv-loop3 μ-loop3 Inv-loop μ-loop
-element-set-from-o2 c = search needs
-
-add-o3 : tie.Need-add-o3 Inv-loop2 μ-loop2 Inv-loop3 μ-loop3 Inv-loop μ-loop
-add-o3 c = search needs
-
-mul-o3 : tie.Need-mul-o3 Inv-loop2 μ-loop2 Inv-loop3 μ-loop3 Inv-loop μ-loop
-mul-o3 c = search needs
-
-element-set-from-o3 :
-    tie.Need-element-set-from-o3 Inv-loop2 μ-loop2 Inv-loop3 μ-loop3 Inv-loop μ-loop
-element-set-from-o3 c = search needs
-
-turn-count-requires :
-    tie.Need-turn-count-requires Inv-loop2 μ-loop2 Inv-loop3 μ-loop3 Inv-loop μ-loop
-turn-count-requires c κs = search needs
 
 add-last : tie.Need-add-last Inv-loop2 μ-loop2 Inv-loop3 μ-loop3 Inv-loop μ-loop
 add-last c =
@@ -409,19 +184,6 @@ loop3-again c =
     rw (c .turn-count .ensures, looked .reading-look .ensures)
     (working-next t reading (work .t) (work .answer) (scan .empty) (scan .rest) (work .turn) (work .last) _ _ _ _ _ (decided .decide-turn .result) (work .inv) (test .loop3-test .taken) e f u)
 
-mul-put-answer : tie.Need-mul-put-answer Inv-loop2 μ-loop2 Inv-loop3 μ-loop3 Inv-loop μ-loop
-mul-put-answer c = search needs
-
-put-answer-requires :
-    tie.Need-put-answer-requires Inv-loop2 μ-loop2 Inv-loop3 μ-loop3 Inv-loop μ-loop
-put-answer-requires c κs = search needs
-
-add-i : tie.Need-add-i Inv-loop2 μ-loop2 Inv-loop3 μ-loop3 Inv-loop μ-loop
-add-i c = search needs
-
-loop-less : tie.Need-loop-less Inv-loop2 μ-loop2 Inv-loop3 μ-loop3 Inv-loop μ-loop
-loop-less c = search needs
-
 loop-again : tie.Need-loop-again Inv-loop2 μ-loop2 Inv-loop3 μ-loop3 Inv-loop μ-loop
 loop-again c =
     let put = c .before .before .put-answer in
@@ -436,9 +198,6 @@ loop-again c =
     outcome-next part (loop .i) (loop .t) (found .record-at .result) (read .read-record .result) (record { answer = work .answer; tables = work .t }) (loop .inv .0) (found .record-at .ensures) (read .read-record .ensures)
     (working-done (loop .t) (read .read-record .result) (work .t) (work .answer) (work .turn) (work .last) (work .inv) (omega arith)) in
     (j .0, answered-next part _ (loop .out) _ (loop .i) (work .answer) (loop .inv .1) (put .ensures) (j .1), omega arith, put .kept .0 ∙ loop .inv .3)
-
-same-length : tie.Need-same-length Inv-loop2 μ-loop2 Inv-loop3 μ-loop3 Inv-loop μ-loop
-same-length c = search needs
 
 returns : tie.Need-returns Inv-loop2 μ-loop2 Inv-loop3 μ-loop3 Inv-loop μ-loop
 returns c =
@@ -455,87 +214,87 @@ run-spec =
     μ-loop3
     Inv-loop
     μ-loop
-    start-requires
+    (λ c κs. search needs)
     loop-holds
-    record-at-requires
-    read-record-requires
-    reading-look-requires
-    scan-count-requires
-    element-copy-out-message0
-    slot-place-requires
+    (λ c κs. search needs)
+    (λ c κs. search needs)
+    (λ c κs. search needs)
+    (λ c κs. search needs)
+    (λ c. search needs)
+    (λ c κs. search needs)
     loop2-holds
-    mul-v
-    add-v
-    mul-message
-    element-copy-out-message
-    mul-visit
-    element-copy-out-visit
-    first-next-requires
-    rest-next-requires
-    add-k
-    loop2-less
+    (λ c. search needs)
+    (λ c. search needs)
+    (λ c. search needs)
+    (λ c. search needs)
+    (λ c. search needs)
+    (λ c. search needs)
+    (λ c κs. search needs)
+    (λ c κs. search needs)
+    (λ c. search needs)
+    (λ c. search needs)
     loop2-again
     loop3-holds
     turn-look-requires
-    mail-place-requires
-    mul-message-2
-    element-copy-out-message-2
-    slot-place-requires-2
-    mul-passage
-    element-copy-out-passage
-    site-place-requires
-    bank-place-requires
-    mul-b
-    mul-v-2
-    add-v-2
-    mul-site
-    element-copy-out-site
-    mul-visit-2
-    element-copy-out-visit-2
-    mul-o0
-    element-copy-out-o0
-    add-t84
-    mul-t85
-    element-copy-out-t88
-    add-t89
-    mul-t90
-    element-copy-out-t93
-    add-o1
-    mul-o1
-    element-copy-out-o1
+    (λ c κs. search needs)
+    (λ c. search needs)
+    (λ c. search needs)
+    (λ c κs. search needs)
+    (λ c. search needs)
+    (λ c. search needs)
+    (λ c κs. search needs)
+    (λ c κs. search needs)
+    (λ c. search needs)
+    (λ c. search needs)
+    (λ c. search needs)
+    (λ c. search needs)
+    (λ c. search needs)
+    (λ c. search needs)
+    (λ c. search needs)
+    (λ c. search needs)
+    (λ c. search needs)
+    (λ c. search needs)
+    (λ c. search needs)
+    (λ c. search needs)
+    (λ c. search needs)
+    (λ c. search needs)
+    (λ c. search needs)
+    (λ c. search needs)
+    (λ c. search needs)
+    (λ c. search needs)
     decide-turn-requires
-    array-copy-out-o0
-    array-copy-out-o1
-    array-copy-out-o2
-    array-copy-out-o3
-    mul-site-left
-    element-set-from-site-left
-    mul-passage-left
-    element-set-from-passage-left
-    mul-visit-left
-    element-set-from-visit-left
+    (λ c. search needs)
+    (λ c. search needs)
+    (λ c. search needs)
+    (λ c. search needs)
+    (λ c. search needs)
+    (λ c. search needs)
+    (λ c. search needs)
+    (λ c. search needs)
+    (λ c. search needs)
+    (λ c. search needs)
     mul-message-left
     element-set-from-message-left
-    mul-o0-2
-    element-set-from-o0
-    add-o1-2
-    mul-o1-2
-    element-set-from-o1
-    add-o2
-    mul-o2
-    element-set-from-o2
-    add-o3
-    mul-o3
-    element-set-from-o3
-    turn-count-requires
+    (λ c. search needs)
+    (λ c. search needs)
+    (λ c. search needs)
+    (λ c. search needs)
+    (λ c. search needs)
+    (λ c. search needs)
+    (λ c. search needs)
+    (λ c. search needs)
+    (λ c. search needs)
+    (λ c. search needs)
+    (λ c. search needs)
+    (λ c κs. search needs)
     add-last
     add-turn
     loop3-less
     loop3-again
-    mul-put-answer
-    put-answer-requires
-    add-i
-    loop-less
+    (λ c. search needs)
+    (λ c κs. search needs)
+    (λ c. search needs)
+    (λ c. search needs)
     loop-again
-    same-length
+    (λ c. search needs)
     returns)

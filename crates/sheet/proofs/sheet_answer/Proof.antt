@@ -13,18 +13,9 @@ returns-2 : tie.Need-returns-2
 unfolding sheetAnswer
 returns-2 c = rw (le-ltb _ _ (c .before .if1 .left), lt-ltb _ _ (c .if2 .taken))
 
-has-mark-requires : tie.Need-has-mark-requires
-has-mark-requires c κs = search needs
-
 returns-3 : tie.Need-returns-3
 unfolding sheetAnswer
 returns-3 c = rw (le-ltb _ _ (c .before .before .before .if1 .left), le-ltb _ _ (c .before .before .if2 .left), ← c .before .has-mark .ensures, c .if3 .taken)
-
-distance-requires : tie.Need-distance-requires
-distance-requires c κs = search needs
-
-sub-if4 : tie.Need-sub-if4
-sub-if4 c = search needs
 
 returns-4 : tie.Need-returns-4
 unfolding sheetAnswer
@@ -40,9 +31,9 @@ sheet-answer-spec =
     (tie.spec
     returns
     returns-2
-    has-mark-requires
+    (λ c κs. search needs)
     returns-3
-    distance-requires
-    sub-if4
+    (λ c κs. search needs)
+    (λ c. search needs)
     returns-4
     returns-5)

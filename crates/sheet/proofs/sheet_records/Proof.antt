@@ -21,15 +21,6 @@ none SheetAnswer.TooShort b h = refl
 none SheetAnswer.BadMark b h = refl
 none SheetAnswer.BadDistance b h = refl
 
-sheet-answer-requires : tie.Need-sheet-answer-requires
-sheet-answer-requires c κs = search needs
-
-enum-told : tie.Need-enum-told
-enum-told c = search needs
-
-slice-aggregate-result : tie.Need-slice-aggregate-result
-slice-aggregate-result c = search needs
-
 returns : tie.Need-returns
 unfolding sheetRecords
 returns c = rw (← c .before .before .sheet-answer .ensures) (sym (none (c .before .before .sheet-answer .result) (c .before .before .before .before .args .b .now) (c .before .match .keys2)))
@@ -43,15 +34,6 @@ distance-requires c κs = taken-whole (c .before .before .before .before .args .
 sub-from : tie.Need-sub-from
 sub-from c = rw (c .distance .ensures) (taken-whole (c .before .before .before .before .before .args .b .now) (sym (c .before .before .before .sheet-answer .ensures) ∙ c .before .enum-told .given .1) .within)
 
-sub-result : tie.Need-sub-result
-sub-result c = search needs
-
-part-result-start : tie.Need-part-result-start
-part-result-start c = search needs
-
-part-result-end : tie.Need-part-result-end
-part-result-end c = search needs
-
 returns-2 : tie.Need-returns-2
 returns-2 c = rw (c .before .distance .ensures) (taken-records (c .before .before .before .before .before .before .args .b .now) (sym (c .before .before .before .before .sheet-answer .ensures) ∙ c .before .before .enum-told .given .1))
 
@@ -59,14 +41,14 @@ pub sheet-records-spec : {M : Type 1} → statement M
 sheet-records-spec =
     tie.close
     (tie.spec
-    sheet-answer-requires
-    enum-told
-    slice-aggregate-result
+    (λ c κs. search needs)
+    (λ c. search needs)
+    (λ c. search needs)
     returns
     sub-to
     distance-requires
     sub-from
-    sub-result
-    part-result-start
-    part-result-end
+    (λ c. search needs)
+    (λ c. search needs)
+    (λ c. search needs)
     returns-2)

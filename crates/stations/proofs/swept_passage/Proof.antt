@@ -3,12 +3,6 @@ use borrow.Author.Needs.{needs}
 use Rattle.stations.proofs.swept_passage.Statement.{statement}
 use Rattle.stations.proofs.swept_passage.Tie as tie
 
-is-active-requires : tie.Need-is-active-requires
-is-active-requires c κs = search needs
-
-aborted-passage-requires : tie.Need-aborted-passage-requires
-aborted-passage-requires c κs = search needs
-
 returns : tie.Need-returns
 returns c = rw (c .aborted-passage .ensures, ← c .before .before .before .is-active .ensures, c .before .if1 .taken)
 
@@ -17,4 +11,4 @@ returns-2 c = rw (← c .before .before .is-active .ensures, c .if1 .left)
 
 pub swept-passage-spec : {M : Type 1} → statement M
 swept-passage-spec =
-    tie.close (tie.spec is-active-requires aborted-passage-requires returns returns-2)
+    tie.close (tie.spec (λ c κs. search needs) (λ c κs. search needs) returns returns-2)

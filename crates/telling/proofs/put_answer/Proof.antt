@@ -4,20 +4,8 @@ use borrow.Author.Needs.{needs}
 use Rattle.telling.proofs.put_answer.Statement.{statement}
 use Rattle.telling.proofs.put_answer.Tie as tie
 
-put-accepted-requires : tie.Need-put-accepted-requires
-put-accepted-requires c κs = search needs
-
-same-length : tie.Need-same-length
-same-length c = search needs
-
 returns : tie.Need-returns
 returns c = rw (eq-eqb (c .before .before .before .before .before .before .args .number) 0 (c .before .before .before .before .if1 .taken)) (c .before .before .put-accepted .ensures)
-
-put-refused-requires : tie.Need-put-refused-requires
-put-refused-requires c κs = search needs
-
-same-length-2 : tie.Need-same-length-2
-same-length-2 c = search needs
 
 returns-2 : tie.Need-returns-2
 returns-2 c = rw (ne-eqb (c .before .before .before .before .before .before .args .number) 0 (c .before .before .before .before .if1 .left)) (c .before .before .put-refused .ensures)
@@ -26,9 +14,9 @@ pub put-answer-spec : {M : Type 1} → statement M
 put-answer-spec =
     tie.close
     (tie.spec
-    put-accepted-requires
-    same-length
+    (λ c κs. search needs)
+    (λ c. search needs)
     returns
-    put-refused-requires
-    same-length-2
+    (λ c κs. search needs)
+    (λ c. search needs)
     returns-2)

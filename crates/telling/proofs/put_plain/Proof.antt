@@ -24,21 +24,9 @@ loop-holds : tie.Need-loop-holds Inv-loop μ-loop
 unfolding plainUpTo
 loop-holds c = (put-none (c .before .before .args .out .now) 0, omega arith, search needs, refl)
 
-record-at-requires : tie.Need-record-at-requires Inv-loop μ-loop
-record-at-requires c κs = omega arith
-
-put-record-requires : tie.Need-put-record-requires Inv-loop μ-loop
-put-record-requires c κs = omega arith
-
 put-byte-requires : tie.Need-put-byte-requires Inv-loop μ-loop
 put-byte-requires c κs = let z : length (c .before .before .before .before .before .record-at .result) ≡ 16 = search needs in
     omega (arith, record-length (c .before .before .before .before .before .record-at .result) z)
-
-add-i : tie.Need-add-i Inv-loop μ-loop
-add-i c = search needs
-
-loop-less : tie.Need-loop-less Inv-loop μ-loop
-loop-less c = search needs
 
 loop-again : tie.Need-loop-again Inv-loop μ-loop
 loop-again c = let room : 16 * c .before .before .before .before .before .before .before .before .before .before .loop .i + 16 ≤ length (c .before .before .before .before .before .before .before .before .before .before .before .before .before .args .part .now) = omega arith in
@@ -61,11 +49,11 @@ put-plain-spec =
     Inv-loop
     μ-loop
     loop-holds
-    record-at-requires
-    put-record-requires
+    (λ c κs. omega arith)
+    (λ c κs. omega arith)
     put-byte-requires
-    add-i
-    loop-less
+    (λ c. search needs)
+    (λ c. search needs)
     loop-again
     same-length
     returns)

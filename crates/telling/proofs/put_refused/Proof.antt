@@ -8,23 +8,11 @@ use borrow.Author.Needs.{needs}
 use Rattle.telling.proofs.put_refused.Statement.{statement}
 use Rattle.telling.proofs.put_refused.Tie as tie
 
-slice-aggregate-put-text : tie.Need-slice-aggregate-put-text
-slice-aggregate-put-text c = search needs
-
-put-text-requires : tie.Need-put-text-requires
-put-text-requires c κs = search needs
-
-put-digits-requires : tie.Need-put-digits-requires
-put-digits-requires c κs = search needs
-
 put-byte-requires : tie.Need-put-byte-requires
 put-byte-requires c κs = omega (arith, digits-length 20 (c .before .before .before .before .before .before .before .before .before .before .before .args .number))
 
 put-phrase-requires : tie.Need-put-phrase-requires
 put-phrase-requires c κs = omega (arith, digits-length 20 (c .before .before .before .before .before .before .before .before .before .before .before .before .before .before .before .args .number))
-
-same-length : tie.Need-same-length
-same-length c = search needs
 
 returns : tie.Need-returns
 returns c = let l : c .before .before .before .before .before .before .before .before .before .before .before .before .before .before .before .before .before .before .args .at ≤ length (c .before .before .before .before .before .before .before .before .before .before .before .before .before .before .before .before .before .before .args .out .now) = omega arith in
@@ -35,10 +23,10 @@ pub put-refused-spec : {M : Type 1} → statement M
 put-refused-spec =
     tie.close
     (tie.spec
-    slice-aggregate-put-text
-    put-text-requires
-    put-digits-requires
+    (λ c. search needs)
+    (λ c κs. search needs)
+    (λ c κs. search needs)
     put-byte-requires
     put-phrase-requires
-    same-length
+    (λ c. search needs)
     returns)

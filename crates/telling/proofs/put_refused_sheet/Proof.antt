@@ -9,18 +9,6 @@ use borrow.Author.Needs.{needs}
 use Rattle.telling.proofs.put_refused_sheet.Statement.{statement}
 use Rattle.telling.proofs.put_refused_sheet.Tie as tie
 
-sheet-number-requires : tie.Need-sheet-number-requires
-sheet-number-requires c κs = search needs
-
-slice-aggregate-put-text : tie.Need-slice-aggregate-put-text
-slice-aggregate-put-text c = search needs
-
-put-text-requires : tie.Need-put-text-requires
-put-text-requires c κs = search needs
-
-put-digits-requires : tie.Need-put-digits-requires
-put-digits-requires c κs = search needs
-
 put-byte-requires : tie.Need-put-byte-requires
 put-byte-requires c κs = omega (arith, digits-length 20 (c .before .before .before .before .before .before .before .before .before .before .sheet-number .result))
 
@@ -29,9 +17,6 @@ put-sheet-phrase-requires c κs = omega (arith, digits-length 20 (c .before .bef
 
 put-byte-requires-2 : tie.Need-put-byte-requires-2
 put-byte-requires-2 c κs = omega (arith, digits-length 20 (c .before .before .before .before .before .before .before .before .before .before .before .before .before .before .before .before .before .before .sheet-number .result), sheet-phrase-length (c .before .before .before .before .before .before .before .before .before .before .before .before .before .before .before .before .before .before .before .before .args .a))
-
-same-length : tie.Need-same-length
-same-length c = search needs
 
 returns : tie.Need-returns
 returns c = let d = digits-length 20 (c .before .before .before .before .before .before .before .before .before .before .before .before .before .before .before .before .before .before .before .before .before .sheet-number .result) in
@@ -43,12 +28,12 @@ pub put-refused-sheet-spec : {M : Type 1} → statement M
 put-refused-sheet-spec =
     tie.close
     (tie.spec
-    sheet-number-requires
-    slice-aggregate-put-text
-    put-text-requires
-    put-digits-requires
+    (λ c κs. search needs)
+    (λ c. search needs)
+    (λ c κs. search needs)
+    (λ c κs. search needs)
     put-byte-requires
     put-sheet-phrase-requires
     put-byte-requires-2
-    same-length
+    (λ c. search needs)
     returns)

@@ -23,43 +23,10 @@ loop-holds : tie.Need-loop-holds Inv-loop μ-loop
 unfolding toldUpTo
 loop-holds c = (put-none (c .before .before .before .args .out .now) 0, omega arith, search needs, refl)
 
-record-at-requires : tie.Need-record-at-requires Inv-loop μ-loop
-record-at-requires c κs = omega arith
-
-mul-number : tie.Need-mul-number Inv-loop μ-loop
-mul-number c = omega arith
-
-mul-number-2 : tie.Need-mul-number-2 Inv-loop μ-loop
-mul-number-2 c = omega arith
-
-shared-slice-read-number : tie.Need-shared-slice-read-number Inv-loop μ-loop
-shared-slice-read-number c = omega arith
-
-mul-value : tie.Need-mul-value Inv-loop μ-loop
-mul-value c = omega arith
-
-add-value : tie.Need-add-value Inv-loop μ-loop
-add-value c = omega arith
-
-mul-value-2 : tie.Need-mul-value-2 Inv-loop μ-loop
-mul-value-2 c = omega arith
-
-shared-slice-read-value : tie.Need-shared-slice-read-value Inv-loop μ-loop
-shared-slice-read-value c = omega arith
-
-add-put-told-line : tie.Need-add-put-told-line Inv-loop μ-loop
-add-put-told-line c = omega arith
-
 put-told-line-requires : tie.Need-put-told-line-requires Inv-loop μ-loop
 put-told-line-requires c κs = let room : 16 * c .before .before .before .before .before .loop .i + 16 ≤ length (c .before .before .before .before .before .before .before .before .before .args .part .now) = omega arith in
     let w : Bytes16 (recordAt (c .before .before .before .before .before .before .before .before .before .args .part .now) (c .before .before .before .before .before .loop .i)) = record-bytes (c .before .before .before .before .before .before .before .before .before .args .part .now) (c .before .before .before .before .before .loop .i) (λ k. omega (arith, c .before .before .before .before .before .before .before .before .shared-slice-known .given k)) room in
     (omega arith, omega arith, rw (c .before .before .before .record-at .ensures) (record-short (recordAt (c .before .before .before .before .before .before .before .before .before .args .part .now) (c .before .before .before .before .before .loop .i)) w))
-
-add-i : tie.Need-add-i Inv-loop μ-loop
-add-i c = search needs
-
-loop-less : tie.Need-loop-less Inv-loop μ-loop
-loop-less c = search needs
 
 loop-again : tie.Need-loop-again Inv-loop μ-loop
 loop-again c = let room : 16 * c .before .before .before .before .before .before .before .before .loop .i + 16 ≤ length (c .before .before .before .before .before .before .before .before .before .before .before .before .args .part .now) = omega arith in
@@ -81,18 +48,18 @@ put-told-spec =
     Inv-loop
     μ-loop
     loop-holds
-    record-at-requires
-    mul-number
-    mul-number-2
-    shared-slice-read-number
-    mul-value
-    add-value
-    mul-value-2
-    shared-slice-read-value
-    add-put-told-line
+    (λ c κs. omega arith)
+    (λ c. omega arith)
+    (λ c. omega arith)
+    (λ c. omega arith)
+    (λ c. omega arith)
+    (λ c. omega arith)
+    (λ c. omega arith)
+    (λ c. omega arith)
+    (λ c. omega arith)
     put-told-line-requires
-    add-i
-    loop-less
+    (λ c. search needs)
+    (λ c. search needs)
     loop-again
     same-length
     returns)

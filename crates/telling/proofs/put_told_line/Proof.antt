@@ -9,9 +9,6 @@ use borrow.Author.Needs.{needs}
 use Rattle.telling.proofs.put_told_line.Statement.{statement}
 use Rattle.telling.proofs.put_told_line.Tie as tie
 
-put-digits-requires : tie.Need-put-digits-requires
-put-digits-requires c κs = search needs
-
 put-byte-requires : tie.Need-put-byte-requires
 put-byte-requires c κs = omega (arith, place-digits (c .before .before .before .before .before .before .args .place) (c .before .before .before .before .before .before .pre .1))
 
@@ -24,9 +21,6 @@ put-answer-requires c κs = omega (arith, place-digits (c .before .before .befor
 put-byte-requires-2 : tie.Need-put-byte-requires-2
 put-byte-requires-2 c κs = omega (arith, place-digits (c .before .before .before .before .before .before .before .before .before .before .before .before .before .before .before .before .before .before .args .place) (c .before .before .before .before .before .before .before .before .before .before .before .before .before .before .before .before .before .before .pre .1), c .before .before .before .before .before .before .before .before .before .before .before .before .before .before .before .before .before .before .pre .2, told-length (c .before .before .before .before .before .before .before .before .before .before .before .before .before .before .before .before .before .before .args .number) (c .before .before .before .before .before .before .before .before .before .before .before .before .before .before .before .before .before .before .args .value))
 
-same-length : tie.Need-same-length
-same-length c = search needs
-
 returns : tie.Need-returns
 unfolding numbersLine
 returns c = let l : c .before .before .before .before .before .before .before .before .before .before .before .before .before .before .before .before .before .before .before .before .before .args .at ≤ length (c .before .before .before .before .before .before .before .before .before .before .before .before .before .before .before .before .before .before .before .before .before .args .out .now) = omega arith in
@@ -37,10 +31,10 @@ pub put-told-line-spec : {M : Type 1} → statement M
 put-told-line-spec =
     tie.close
     (tie.spec
-    put-digits-requires
+    (λ c κs. search needs)
     put-byte-requires
     put-record-requires
     put-answer-requires
     put-byte-requires-2
-    same-length
+    (λ c. search needs)
     returns)

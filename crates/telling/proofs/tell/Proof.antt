@@ -12,33 +12,15 @@ use borrow.Author.Needs.{needs}
 use Rattle.telling.proofs.tell.Statement.{statement}
 use Rattle.telling.proofs.tell.Tie as tie
 
-sheet-answer-requires : tie.Need-sheet-answer-requires
-sheet-answer-requires c κs = search needs
-
-enum-told : tie.Need-enum-told
-enum-told c = search needs
-
-put-refused-sheet-requires : tie.Need-put-refused-sheet-requires
-put-refused-sheet-requires c κs = search needs
-
 returns : tie.Need-returns
 returns c = let l : length (c .before .before .before .before .before .args .out .now) ≡ 524288 = search needs in
     let q : refusedSheet (c .before .before .before .sheet-answer .result) ≡ toldOf (c .before .before .before .before .before .args .sheet .now) = told-refused (c .before .before .before .before .before .args .sheet .now) (c .before .before .before .sheet-answer .result) (c .before .before .before .sheet-answer .ensures) (c .before .before .match .keys2) in
     (rw q at (c .put-refused-sheet .ensures .0), omega (arith, c .put-refused-sheet .ensures .1, c .put-refused-sheet .kept .0))
 
-sheet-records-requires : tie.Need-sheet-records-requires
-sheet-records-requires c κs = search needs
-
-slice-aggregate-run : tie.Need-slice-aggregate-run
-slice-aggregate-run c = search needs
-
 run-requires : tie.Need-run-requires
 run-requires c κs = let few : length (sheetRecords (c .before .before .before .before .before .before .args .sheet .now)) / 16 ≤ 4095 = taken-few (c .before .before .before .before .before .before .args .sheet .now) (sym (c .before .before .before .before .sheet-answer .ensures) ∙ c .before .before .enum-told .given .1) in
     let n : length (c .before .sheet-records .result .now) / 16 ≤ 4095 = rw (c .before .sheet-records .ensures) few in
     (omega arith, omega (arith, n))
-
-slice-aggregate-put-told : tie.Need-slice-aggregate-put-told
-slice-aggregate-put-told c = search needs
 
 put-told-requires : tie.Need-put-told-requires
 put-told-requires c κs = let l : length (c .before .before .before .before .before .before .before .before .before .before .args .out .now) ≡ 524288 = search needs in
@@ -58,13 +40,13 @@ pub tell-spec : {M : Type 1} → statement M
 tell-spec =
     tie.close
     (tie.spec
-    sheet-answer-requires
-    enum-told
-    put-refused-sheet-requires
+    (λ c κs. search needs)
+    (λ c. search needs)
+    (λ c κs. search needs)
     returns
-    sheet-records-requires
-    slice-aggregate-run
+    (λ c κs. search needs)
+    (λ c. search needs)
     run-requires
-    slice-aggregate-put-told
+    (λ c. search needs)
     put-told-requires
     returns-2)

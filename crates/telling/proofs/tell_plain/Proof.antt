@@ -11,22 +11,10 @@ use borrow.Author.Needs.{needs}
 use Rattle.telling.proofs.tell_plain.Statement.{statement}
 use Rattle.telling.proofs.tell_plain.Tie as tie
 
-sheet-answer-requires : tie.Need-sheet-answer-requires
-sheet-answer-requires c κs = search needs
-
-enum-told : tie.Need-enum-told
-enum-told c = search needs
-
-put-refused-sheet-requires : tie.Need-put-refused-sheet-requires
-put-refused-sheet-requires c κs = search needs
-
 returns : tie.Need-returns
 returns c = let l : length (c .before .before .before .before .before .args .out .now) ≡ 524288 = search needs in
     let q : refusedSheet (c .before .before .before .sheet-answer .result) ≡ plainOf (c .before .before .before .before .before .args .sheet .now) = plain-refused (c .before .before .before .before .before .args .sheet .now) (c .before .before .before .sheet-answer .result) (c .before .before .before .sheet-answer .ensures) (c .before .before .match .keys2) in
     (rw q at (c .put-refused-sheet .ensures .0), omega (arith, c .put-refused-sheet .ensures .1, c .put-refused-sheet .kept .0))
-
-sheet-records-requires : tie.Need-sheet-records-requires
-sheet-records-requires c κs = search needs
 
 put-plain-requires : tie.Need-put-plain-requires
 put-plain-requires c κs = let l : length (c .before .before .before .before .before .before .args .out .now) ≡ 524288 = search needs in
@@ -45,10 +33,10 @@ pub tell-plain-spec : {M : Type 1} → statement M
 tell-plain-spec =
     tie.close
     (tie.spec
-    sheet-answer-requires
-    enum-told
-    put-refused-sheet-requires
+    (λ c κs. search needs)
+    (λ c. search needs)
+    (λ c κs. search needs)
     returns
-    sheet-records-requires
+    (λ c κs. search needs)
     put-plain-requires
     returns-2)

@@ -39,38 +39,6 @@ put-letters-returns : (t : ℕ) → put-letters-lts.Need-returns (
 put-letters-returns t c =
     let args = c .before .before .args in rw (letters-none (args .left) (args .w) (c .if1 .taken)) (put-none (now (args .out)) (args .at))
 
-put-letters-add-put-byte : (t : ℕ) → put-letters-lts.Need-add-put-byte (
-  put-byte-reads.Asked,
-  put-byte-reads.Learnt,
-  put-letters-below t,
-  put-letters.Post,
-) (put-letters-at t) put-letters.Post
-put-letters-add-put-byte t c = search needs
-
-put-letters-cast-put-byte : (t : ℕ) → put-letters-lts.Need-cast-put-byte (
-  put-byte-reads.Asked,
-  put-byte-reads.Learnt,
-  put-letters-below t,
-  put-letters.Post,
-) (put-letters-at t) put-letters.Post
-put-letters-cast-put-byte t c = search needs
-
-put-letters-put-byte-requires : (t : ℕ) → put-letters-lts.Need-put-byte-requires (
-  put-byte-reads.Asked,
-  put-byte-reads.Learnt,
-  put-letters-below t,
-  put-letters.Post,
-) (put-letters-at t) put-letters.Post
-put-letters-put-byte-requires t c κs = search needs
-
-put-letters-same-length : (t : ℕ) → put-letters-lts.Need-same-length (
-  put-byte-reads.Asked,
-  put-byte-reads.Learnt,
-  put-letters-below t,
-  put-letters.Post,
-) (put-letters-at t) put-letters.Post
-put-letters-same-length t c = search needs
-
 put-letters-returns-2 : (t : ℕ) → put-letters-lts.Need-returns-2 (
   put-byte-reads.Asked,
   put-byte-reads.Learnt,
@@ -82,38 +50,6 @@ put-letters-returns-2 t c =
     let args = byte .before .before .before .before .before .args in
     rw (letters-one (args .left) (args .w) (byte .before .before .before .if1 .left) (byte .before .before .if2 .taken)) (byte .put-byte .ensures)
 
-put-letters-sub-put-letters : (t : ℕ) → put-letters-lts.Need-sub-put-letters (
-  put-byte-reads.Asked,
-  put-byte-reads.Learnt,
-  put-letters-below t,
-  put-letters.Post,
-) (put-letters-at t) put-letters.Post
-put-letters-sub-put-letters t c = search needs
-
-put-letters-put-letters-requires : (t : ℕ) → put-letters-lts.Need-put-letters-requires (
-  put-byte-reads.Asked,
-  put-byte-reads.Learnt,
-  put-letters-below t,
-  put-letters.Post,
-) (put-letters-at t) put-letters.Post
-put-letters-put-letters-requires t c κs = search needs
-
-put-letters-add-put-byte-2 : (t : ℕ) → put-letters-lts.Need-add-put-byte-2 (
-  put-byte-reads.Asked,
-  put-byte-reads.Learnt,
-  put-letters-below t,
-  put-letters.Post,
-) (put-letters-at t) put-letters.Post
-put-letters-add-put-byte-2 t c = search needs
-
-put-letters-cast-put-byte-2 : (t : ℕ) → put-letters-lts.Need-cast-put-byte-2 (
-  put-byte-reads.Asked,
-  put-byte-reads.Learnt,
-  put-letters-below t,
-  put-letters.Post,
-) (put-letters-at t) put-letters.Post
-put-letters-cast-put-byte-2 t c = search needs
-
 put-letters-put-byte-requires-2 : (t : ℕ) → put-letters-lts.Need-put-byte-requires-2 (
   put-byte-reads.Asked,
   put-byte-reads.Learnt,
@@ -122,14 +58,6 @@ put-letters-put-byte-requires-2 : (t : ℕ) → put-letters-lts.Need-put-byte-re
 ) (put-letters-at t) put-letters.Post
 put-letters-put-byte-requires-2 t c κs =
     let args = c .before .before .before .before .before .before .before .before .args in omega (arith, letters-length (args .left - 1) (args .w / 32))
-
-put-letters-same-length-2 : (t : ℕ) → put-letters-lts.Need-same-length-2 (
-  put-byte-reads.Asked,
-  put-byte-reads.Learnt,
-  put-letters-below t,
-  put-letters.Post,
-) (put-letters-at t) put-letters.Post
-put-letters-same-length-2 t c = search needs
 
 put-letters-returns-3 : (t : ℕ) → put-letters-lts.Need-returns-3 (
   put-byte-reads.Asked,
@@ -155,15 +83,15 @@ pub +put-letters-spec : {M : Type 1} → statement M
     (put-letters-at t)
     put-letters.Post
     (put-letters-returns t)
-    (put-letters-add-put-byte t)
-    (put-letters-cast-put-byte t)
-    (put-letters-put-byte-requires t)
-    (put-letters-same-length t)
+    (λ c. search needs)
+    (λ c. search needs)
+    (λ c κs. search needs)
+    (λ c. search needs)
     (put-letters-returns-2 t)
-    (put-letters-sub-put-letters t)
-    (put-letters-put-letters-requires t)
-    (put-letters-add-put-byte-2 t)
-    (put-letters-cast-put-byte-2 t)
+    (λ c. search needs)
+    (λ c κs. search needs)
+    (λ c. search needs)
+    (λ c. search needs)
     (put-letters-put-byte-requires-2 t)
-    (put-letters-same-length-2 t)
+    (λ c. search needs)
     (put-letters-returns-3 t)

@@ -3,15 +3,6 @@ use borrow.Author.Needs.{needs}
 use Rattle.work.proofs.decide_reading.Statement.{statement}
 use Rattle.work.proofs.decide_reading.Tie as tie
 
-enum-told : tie.Need-enum-told
-enum-told c = search needs
-
-enum-known-reading : tie.Need-enum-known-reading
-enum-known-reading c = search needs
-
-decide-requires : tie.Need-decide-requires
-decide-requires c κs = search needs
-
 returns : tie.Need-returns
 returns c = rw (c .enum-told .given .1)
 
@@ -20,4 +11,4 @@ returns-2 c = rw (c .decide .ensures, c .before .before .reading .given .1)
 
 pub decide-reading-spec : {M : Type 1} → statement M
 decide-reading-spec =
-    tie.close (tie.spec enum-told enum-known-reading decide-requires returns returns-2)
+    tie.close (tie.spec (λ c. search needs) (λ c. search needs) (λ c κs. search needs) returns returns-2)

@@ -7,12 +7,6 @@ use Rattle.work.proofs.decide_turn.Tie as tie
 decide-reading-requires : tie.Need-decide-reading-requires
 decide-reading-requires c κs = c .before .pre .0 (c .if1 .taken)
 
-sub-decide-slot : tie.Need-sub-decide-slot
-sub-decide-slot c = search needs
-
-decide-slot-requires : tie.Need-decide-slot-requires
-decide-slot-requires c κs = search needs
-
 returns : tie.Need-returns
 returns c = rw (c .decide-reading .ensures, eq-eqb (c .before .before .args .turn) 0 (c .before .if1 .taken))
 
@@ -22,4 +16,4 @@ returns-2 c = rw (c .decide-slot .ensures, ne-eqb (c .before .before .args .turn
 pub decide-turn-spec : {M : Type 1} → statement M
 decide-turn-spec =
     tie.close
-    (tie.spec decide-reading-requires sub-decide-slot decide-slot-requires returns returns-2)
+    (tie.spec decide-reading-requires (λ c. search needs) (λ c κs. search needs) returns returns-2)

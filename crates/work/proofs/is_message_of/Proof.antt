@@ -3,14 +3,8 @@ use borrow.Author.Needs.{needs}
 use Rattle.work.proofs.is_message_of.Statement.{statement}
 use Rattle.work.proofs.is_message_of.Tie as tie
 
-is-empty-requires : tie.Need-is-empty-requires
-is-empty-requires c κs = search needs
-
-cast-result : tie.Need-cast-result
-cast-result c = search needs
-
 returns : tie.Need-returns
 returns c = rw (c .before .is-empty .ensures)
 
 pub is-message-of-spec : {M : Type 1} → statement M
-is-message-of-spec = tie.close (tie.spec is-empty-requires cast-result returns)
+is-message-of-spec = tie.close (tie.spec (λ c κs. search needs) (λ c. search needs) returns)

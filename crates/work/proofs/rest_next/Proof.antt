@@ -3,11 +3,8 @@ use borrow.Author.Needs.{needs}
 use Rattle.work.proofs.rest_next.Statement.{statement}
 use Rattle.work.proofs.rest_next.Tie as tie
 
-is-message-of-requires : tie.Need-is-message-of-requires
-is-message-of-requires c κs = search needs
-
 returns : tie.Need-returns
 returns c = rw (c .is-message-of .ensures)
 
 pub rest-next-spec : {M : Type 1} → statement M
-rest-next-spec = tie.close (tie.spec is-message-of-requires returns)
+rest-next-spec = tie.close (tie.spec (λ c κs. search needs) returns)

@@ -4,12 +4,6 @@ use borrow.Author.Needs.{needs}
 use Rattle.work.proofs.turn_look.Statement.{statement}
 use Rattle.work.proofs.turn_look.Tie as tie
 
-sub-slot-look : tie.Need-sub-slot-look
-sub-slot-look c = search needs
-
-slot-look-requires : tie.Need-slot-look-requires
-slot-look-requires c κs = search needs
-
 returns : tie.Need-returns
 returns c = rw (eq-eqb (c .before .args .turn) 0 (c .if1 .taken))
 
@@ -17,4 +11,4 @@ returns-2 : tie.Need-returns-2
 returns-2 c = rw (c .slot-look .ensures, ne-eqb (c .before .before .args .turn) 0 (c .before .if1 .left))
 
 pub turn-look-spec : {M : Type 1} → statement M
-turn-look-spec = tie.close (tie.spec sub-slot-look slot-look-requires returns returns-2)
+turn-look-spec = tie.close (tie.spec (λ c. search needs) (λ c κs. search needs) returns returns-2)

@@ -4,102 +4,6 @@ use Rattle.rules.specs.Machine.{decideOf}
 use Rattle.decisions.proofs.decide.decide.Statement.{statement}
 use Rattle.decisions.proofs.decide.decide.Tie as tie
 
-enum-known-step : tie.Need-enum-known-step
-enum-known-step c = search needs
-
-tick-requires : tie.Need-tick-requires
-tick-requires c κs = search needs
-
-enum-known-step-2 : tie.Need-enum-known-step-2
-enum-known-step-2 c = search needs
-
-begin-requires : tie.Need-begin-requires
-begin-requires c κs = search needs
-
-enum-known-step-3 : tie.Need-enum-known-step-3
-enum-known-step-3 c = search needs
-
-invoke-requires : tie.Need-invoke-requires
-invoke-requires c κs = search needs
-
-enum-known-step-4 : tie.Need-enum-known-step-4
-enum-known-step-4 c = search needs
-
-refresh-requires : tie.Need-refresh-requires
-refresh-requires c κs = search needs
-
-enum-known-step-5 : tie.Need-enum-known-step-5
-enum-known-step-5 c = search needs
-
-terminate-requires : tie.Need-terminate-requires
-terminate-requires c κs = search needs
-
-enum-known-step-6 : tie.Need-enum-known-step-6
-enum-known-step-6 c = search needs
-
-prepare-requires : tie.Need-prepare-requires
-prepare-requires c κs = search needs
-
-enum-known-step-7 : tie.Need-enum-known-step-7
-enum-known-step-7 c = search needs
-
-ask-requires : tie.Need-ask-requires
-ask-requires c κs = search needs
-
-enum-known-step-8 : tie.Need-enum-known-step-8
-enum-known-step-8 c = search needs
-
-close-requires : tie.Need-close-requires
-close-requires c κs = search needs
-
-enum-known-step-9 : tie.Need-enum-known-step-9
-enum-known-step-9 c = search needs
-
-tell-requires : tie.Need-tell-requires
-tell-requires c κs = search needs
-
-enum-known-step-10 : tie.Need-enum-known-step-10
-enum-known-step-10 c = search needs
-
-abort-requires : tie.Need-abort-requires
-abort-requires c κs = search needs
-
-enum-known-step-11 : tie.Need-enum-known-step-11
-enum-known-step-11 c = search needs
-
-deliver-requires : tie.Need-deliver-requires
-deliver-requires c κs = search needs
-
-enum-known-step-12 : tie.Need-enum-known-step-12
-enum-known-step-12 c = search needs
-
-drop-requires : tie.Need-drop-requires
-drop-requires c κs = search needs
-
-enum-known-step-13 : tie.Need-enum-known-step-13
-enum-known-step-13 c = search needs
-
-sweep-requires : tie.Need-sweep-requires
-sweep-requires c κs = search needs
-
-enum-known-step-14 : tie.Need-enum-known-step-14
-enum-known-step-14 c = search needs
-
-crash-requires : tie.Need-crash-requires
-crash-requires c κs = search needs
-
-enum-known-step-15 : tie.Need-enum-known-step-15
-enum-known-step-15 c = search needs
-
-recover-requires : tie.Need-recover-requires
-recover-requires c κs = search needs
-
-enum-known-step-16 : tie.Need-enum-known-step-16
-enum-known-step-16 c = search needs
-
-retire-requires : tie.Need-retire-requires
-retire-requires c κs = search needs
-
 returns : tie.Need-returns
 unfolding decideOf
 returns c = rw (c .tick .ensures, c .before .before .step .given .1)
@@ -168,38 +72,38 @@ pub decide-spec : {M : Type 1} → statement M
 decide-spec =
     tie.close
     (tie.spec
-    enum-known-step
-    tick-requires
-    enum-known-step-2
-    begin-requires
-    enum-known-step-3
-    invoke-requires
-    enum-known-step-4
-    refresh-requires
-    enum-known-step-5
-    terminate-requires
-    enum-known-step-6
-    prepare-requires
-    enum-known-step-7
-    ask-requires
-    enum-known-step-8
-    close-requires
-    enum-known-step-9
-    tell-requires
-    enum-known-step-10
-    abort-requires
-    enum-known-step-11
-    deliver-requires
-    enum-known-step-12
-    drop-requires
-    enum-known-step-13
-    sweep-requires
-    enum-known-step-14
-    crash-requires
-    enum-known-step-15
-    recover-requires
-    enum-known-step-16
-    retire-requires
+    (λ c. search needs)
+    (λ c κs. search needs)
+    (λ c. search needs)
+    (λ c κs. search needs)
+    (λ c. search needs)
+    (λ c κs. search needs)
+    (λ c. search needs)
+    (λ c κs. search needs)
+    (λ c. search needs)
+    (λ c κs. search needs)
+    (λ c. search needs)
+    (λ c κs. search needs)
+    (λ c. search needs)
+    (λ c κs. search needs)
+    (λ c. search needs)
+    (λ c κs. search needs)
+    (λ c. search needs)
+    (λ c κs. search needs)
+    (λ c. search needs)
+    (λ c κs. search needs)
+    (λ c. search needs)
+    (λ c κs. search needs)
+    (λ c. search needs)
+    (λ c κs. search needs)
+    (λ c. search needs)
+    (λ c κs. search needs)
+    (λ c. search needs)
+    (λ c κs. search needs)
+    (λ c. search needs)
+    (λ c κs. search needs)
+    (λ c. search needs)
+    (λ c κs. search needs)
     returns
     returns-2
     returns-3

@@ -3,14 +3,8 @@ use borrow.Author.Needs.{needs}
 use Rattle.decisions.proofs.turns.count_one.Statement.{statement}
 use Rattle.decisions.proofs.turns.count_one.Tie as tie
 
-enum-known-answer : tie.Need-enum-known-answer
-enum-known-answer c = search needs
-
 counted-requires : tie.Need-counted-requires
 counted-requires c κs = rw (c .before .answer .given .1) at (c .before .before .before .pre)
-
-enum-known-answer-2 : tie.Need-enum-known-answer-2
-enum-known-answer-2 c = search needs
 
 returns : tie.Need-returns
 returns c = rw (c .counted .ensures, c .before .before .answer .given .1)
@@ -20,4 +14,4 @@ returns-2 c = rw (c .before .answer2 .given .1)
 
 pub count-one-spec : {M : Type 1} → statement M
 count-one-spec =
-    tie.close (tie.spec enum-known-answer counted-requires enum-known-answer-2 returns returns-2)
+    tie.close (tie.spec (λ c. search needs) counted-requires (λ c. search needs) returns returns-2)

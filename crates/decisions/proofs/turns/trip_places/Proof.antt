@@ -3,24 +3,6 @@ use borrow.Author.Needs.{needs}
 use Rattle.decisions.proofs.turns.trip_places.Statement.{statement}
 use Rattle.decisions.proofs.turns.trip_places.Tie as tie
 
-enum-told : tie.Need-enum-told
-enum-told c = search needs
-
-slot-places-requires : tie.Need-slot-places-requires
-slot-places-requires c κs = search needs
-
-enum-known-trip : tie.Need-enum-known-trip
-enum-known-trip c = search needs
-
-slot-places-requires-2 : tie.Need-slot-places-requires-2
-slot-places-requires-2 c κs = search needs
-
-enum-known-trip-2 : tie.Need-enum-known-trip-2
-enum-known-trip-2 c = search needs
-
-slot-places-requires-3 : tie.Need-slot-places-requires-3
-slot-places-requires-3 c κs = search needs
-
 returns : tie.Need-returns
 returns c = rw (c .slot-places .ensures, c .before .enum-told .given .1)
 
@@ -34,12 +16,12 @@ pub trip-places-spec : {M : Type 1} → statement M
 trip-places-spec =
     tie.close
     (tie.spec
-    enum-told
-    slot-places-requires
-    enum-known-trip
-    slot-places-requires-2
-    enum-known-trip-2
-    slot-places-requires-3
+    (λ c. search needs)
+    (λ c κs. search needs)
+    (λ c. search needs)
+    (λ c κs. search needs)
+    (λ c. search needs)
+    (λ c κs. search needs)
     returns
     returns-2
     returns-3)

@@ -3,20 +3,8 @@ use borrow.Author.Needs.{needs}
 use Rattle.decisions.proofs.turns.turn_answer.Statement.{statement}
 use Rattle.decisions.proofs.turns.turn_answer.Tie as tie
 
-enum-told : tie.Need-enum-told
-enum-told c = search needs
-
-enum-told-2 : tie.Need-enum-told-2
-enum-told-2 c = search needs
-
-is-swept-requires : tie.Need-is-swept-requires
-is-swept-requires c κs = search needs
-
 count-one-requires : tie.Need-count-one-requires
 count-one-requires c κs = rw (c .before .enum-told2 .given .1) at (c .before .before .before .pre)
-
-enum-told-3 : tie.Need-enum-told-3
-enum-told-3 c = search needs
 
 returns : tie.Need-returns
 returns c = rw (c .enum-told .given .1)
@@ -31,11 +19,11 @@ pub turn-answer-spec : {M : Type 1} → statement M
 turn-answer-spec =
     tie.close
     (tie.spec
-    enum-told
-    enum-told-2
-    is-swept-requires
+    (λ c. search needs)
+    (λ c. search needs)
+    (λ c κs. search needs)
     count-one-requires
-    enum-told-3
+    (λ c. search needs)
     returns
     returns-2
     returns-3)

@@ -4,36 +4,6 @@ use Rattle.rules.specs.Calls.{deliverBodyOf}
 use Rattle.deliveries.proofs.delivered.deliver.Statement.{statement}
 use Rattle.deliveries.proofs.delivered.deliver.Tie as tie
 
-enum-told : tie.Need-enum-told
-enum-told c = search needs
-
-deliver-empty-requires : tie.Need-deliver-empty-requires
-deliver-empty-requires c κs = search needs
-
-enum-known-body : tie.Need-enum-known-body
-enum-known-body c = search needs
-
-deliver-call-requires : tie.Need-deliver-call-requires
-deliver-call-requires c κs = search needs
-
-enum-known-body-2 : tie.Need-enum-known-body-2
-enum-known-body-2 c = search needs
-
-deliver-phase-one-requires : tie.Need-deliver-phase-one-requires
-deliver-phase-one-requires c κs = search needs
-
-enum-known-body-3 : tie.Need-enum-known-body-3
-enum-known-body-3 c = search needs
-
-deliver-phase-two-requires : tie.Need-deliver-phase-two-requires
-deliver-phase-two-requires c κs = search needs
-
-enum-known-body-4 : tie.Need-enum-known-body-4
-enum-known-body-4 c = search needs
-
-deliver-answer-requires : tie.Need-deliver-answer-requires
-deliver-answer-requires c κs = search needs
-
 returns : tie.Need-returns
 unfolding deliverBodyOf
 returns c = rw (c .deliver-empty .ensures, c .before .enum-told .given .1)
@@ -58,16 +28,16 @@ pub deliver-spec : {M : Type 1} → statement M
 deliver-spec =
     tie.close
     (tie.spec
-    enum-told
-    deliver-empty-requires
-    enum-known-body
-    deliver-call-requires
-    enum-known-body-2
-    deliver-phase-one-requires
-    enum-known-body-3
-    deliver-phase-two-requires
-    enum-known-body-4
-    deliver-answer-requires
+    (λ c. search needs)
+    (λ c κs. search needs)
+    (λ c. search needs)
+    (λ c κs. search needs)
+    (λ c. search needs)
+    (λ c κs. search needs)
+    (λ c. search needs)
+    (λ c κs. search needs)
+    (λ c. search needs)
+    (λ c κs. search needs)
     returns
     returns-2
     returns-3

@@ -3,11 +3,8 @@ use borrow.Author.Needs.{needs}
 use Rattle.deliveries.proofs.dropped.lost.Statement.{statement}
 use Rattle.deliveries.proofs.dropped.lost.Tie as tie
 
-no-message-requires : tie.Need-no-message-requires
-no-message-requires c κs = search needs
-
 returns : tie.Need-returns
 returns c = rw (c .before .no-message .ensures)
 
 pub lost-spec : {M : Type 1} → statement M
-lost-spec = tie.close (tie.spec no-message-requires returns)
+lost-spec = tie.close (tie.spec (λ c κs. search needs) returns)

@@ -21,21 +21,6 @@ loop-holds : tie.Need-loop-holds Inv-loop μ-loop
 unfolding someUpTo
 loop-holds c = (refl, search needs)
 
-mul-is-message-of : tie.Need-mul-is-message-of Inv-loop μ-loop
-mul-is-message-of c = search needs
-
-array-copy-out-is-message-of : tie.Need-array-copy-out-is-message-of Inv-loop μ-loop
-array-copy-out-is-message-of c = search needs
-
-is-message-of-requires : tie.Need-is-message-of-requires Inv-loop μ-loop
-is-message-of-requires c κs = search needs
-
-add-m : tie.Need-add-m Inv-loop μ-loop
-add-m c = search needs
-
-loop-less : tie.Need-loop-less Inv-loop μ-loop
-loop-less c = search needs
-
 loop-again : tie.Need-loop-again Inv-loop μ-loop
 unfolding someUpTo
 loop-again c = (rw (add-one, c .is-message-of .ensures, ← c .before .before .before .loop .inv .0), search needs)
@@ -51,10 +36,10 @@ has-message-spec =
     Inv-loop
     μ-loop
     loop-holds
-    mul-is-message-of
-    array-copy-out-is-message-of
-    is-message-of-requires
-    add-m
-    loop-less
+    (λ c. search needs)
+    (λ c. search needs)
+    (λ c κs. search needs)
+    (λ c. search needs)
+    (λ c. search needs)
     loop-again
     returns)

@@ -7,9 +7,6 @@ use Rattle.rules.specs.Machine.{headOf}
 use Rattle.machine.proofs.whole.head.Statement.{statement}
 use Rattle.machine.proofs.whole.head.Tie as tie
 
-places-of-requires : tie.Need-places-of-requires
-places-of-requires c κs = search needs
-
 see-requires : tie.Need-see-requires
 see-requires c κs = rw (c .places-of .ensures) (placed-places (c .before .args .t) (c .before .args .look))
 
@@ -30,7 +27,7 @@ pub head-spec : {M : Type 1} → statement M
 head-spec =
     tie.close
     (tie.spec
-    places-of-requires
+    (λ c κs. search needs)
     see-requires
     remains-requires
     decide-requires

@@ -21,21 +21,6 @@ loop-holds : tie.Need-loop-holds Inv-loop μ-loop
 unfolding firstUpTo
 loop-holds c = (refl, search needs)
 
-mul-first-next : tie.Need-mul-first-next Inv-loop μ-loop
-mul-first-next c = search needs
-
-array-copy-out-first-next : tie.Need-array-copy-out-first-next Inv-loop μ-loop
-array-copy-out-first-next c = search needs
-
-first-next-requires : tie.Need-first-next-requires Inv-loop μ-loop
-first-next-requires c κs = search needs
-
-add-i : tie.Need-add-i Inv-loop μ-loop
-add-i c = search needs
-
-loop-less : tie.Need-loop-less Inv-loop μ-loop
-loop-less c = search needs
-
 loop-again : tie.Need-loop-again Inv-loop μ-loop
 unfolding firstUpTo
 loop-again c = (rw (add-one, c .first-next .ensures, ← c .before .before .before .loop .inv .0), search needs)
@@ -51,10 +36,10 @@ lowest-empty-spec =
     Inv-loop
     μ-loop
     loop-holds
-    mul-first-next
-    array-copy-out-first-next
-    first-next-requires
-    add-i
-    loop-less
+    (λ c. search needs)
+    (λ c. search needs)
+    (λ c κs. search needs)
+    (λ c. search needs)
+    (λ c. search needs)
     loop-again
     returns)

@@ -4,18 +4,6 @@ use Rattle.rules.specs.Record.{recordInRangeOf}
 use Rattle.machine.proofs.whole.record_in_range.Statement.{statement}
 use Rattle.machine.proofs.whole.record_in_range.Tie as tie
 
-read-record-requires : tie.Need-read-record-requires
-read-record-requires c κs = search needs
-
-enum-told : tie.Need-enum-told
-enum-told c = search needs
-
-enum-known-reading : tie.Need-enum-known-reading
-enum-known-reading c = search needs
-
-step-in-range-requires : tie.Need-step-in-range-requires
-step-in-range-requires c κs = search needs
-
 returns : tie.Need-returns
 unfolding recordInRangeOf
 returns c = rw (← c .before .before .read-record .ensures, c .enum-told .given .1)
@@ -28,9 +16,9 @@ pub record-in-range-spec : {M : Type 1} → statement M
 record-in-range-spec =
     tie.close
     (tie.spec
-    read-record-requires
-    enum-told
-    enum-known-reading
-    step-in-range-requires
+    (λ c κs. search needs)
+    (λ c. search needs)
+    (λ c. search needs)
+    (λ c κs. search needs)
     returns
     returns-2)

@@ -4,15 +4,9 @@ use Rattle.rules.specs.Machine.{remains}
 use Rattle.machine.proofs.whole.remains.Statement.{statement}
 use Rattle.machine.proofs.whole.remains.Tie as tie
 
-has-visit-requires : tie.Need-has-visit-requires
-has-visit-requires c κs = search needs
-
-has-message-requires : tie.Need-has-message-requires
-has-message-requires c κs = search needs
-
 returns : tie.Need-returns
 unfolding remains
 returns c = rw (c .has-message .ensures, c .before .has-visit .ensures)
 
 pub remains-spec : {M : Type 1} → statement M
-remains-spec = tie.close (tie.spec has-visit-requires has-message-requires returns)
+remains-spec = tie.close (tie.spec (λ c κs. search needs) (λ c κs. search needs) returns)

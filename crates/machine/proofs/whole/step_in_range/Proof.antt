@@ -5,15 +5,6 @@ use Rattle.rules.specs.Machine.{stepInRangeOf}
 use Rattle.machine.proofs.whole.step_in_range.Statement.{statement}
 use Rattle.machine.proofs.whole.step_in_range.Tie as tie
 
-look-of-requires : tie.Need-look-of-requires
-look-of-requires c κs = search needs
-
-head-requires : tie.Need-head-requires
-head-requires c κs = search needs
-
-turn-count-requires : tie.Need-turn-count-requires
-turn-count-requires c κs = search needs
-
 turns-requires : tie.Need-turns-requires
 turns-requires c κs = (rw (c .turn-count .ensures) (turn-count-most (c .before .before .look-of .result .trip) (c .before .head .result .answer)), rw (c .before .before .look-of .ensures, c .before .head .ensures) (trip-starts (c .before .before .before .args .t) (c .before .before .before .args .step)))
 
@@ -23,4 +14,4 @@ returns c = rw (c .turns .ensures, c .before .turn-count .ensures, c .before .be
 
 pub step-in-range-spec : {M : Type 1} → statement M
 step-in-range-spec =
-    tie.close (tie.spec look-of-requires head-requires turn-count-requires turns-requires returns)
+    tie.close (tie.spec (λ c κs. search needs) (λ c κs. search needs) (λ c κs. search needs) turns-requires returns)

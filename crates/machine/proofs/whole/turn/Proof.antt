@@ -4,17 +4,8 @@ use borrow.Author.Needs.{needs}
 use Rattle.machine.proofs.whole.turn.Statement.{statement}
 use Rattle.machine.proofs.whole.turn.Tie as tie
 
-trip-places-requires : tie.Need-trip-places-requires
-trip-places-requires c κs = search needs
-
 see-requires : tie.Need-see-requires
 see-requires c κs = rw (c .trip-places .ensures) (placed-trip (c .before .before .args .trip) (c .before .before .args .slot) (c .before .before .pre .0))
-
-turn-answer-requires : tie.Need-turn-answer-requires
-turn-answer-requires c κs = search needs
-
-turn-seen-requires : tie.Need-turn-seen-requires
-turn-seen-requires c κs = search needs
 
 store-requires : tie.Need-store-requires
 store-requires c κs = rw (c .before .before .before .trip-places .ensures) (placed-trip (c .before .before .before .before .before .args .trip) (c .before .before .before .before .before .args .slot) (c .before .before .before .before .before .pre .0))
@@ -26,9 +17,9 @@ pub turn-spec : {M : Type 1} → statement M
 turn-spec =
     tie.close
     (tie.spec
-    trip-places-requires
+    (λ c κs. search needs)
     see-requires
-    turn-answer-requires
-    turn-seen-requires
+    (λ c κs. search needs)
+    (λ c κs. search needs)
     store-requires
     returns)

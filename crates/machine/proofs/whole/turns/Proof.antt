@@ -21,15 +21,6 @@ loop-holds : tie.Need-loop-holds Inv-loop μ-loop
 unfolding turnsUpTo
 loop-holds c = (refl, search needs, omega arith)
 
-turn-requires : tie.Need-turn-requires Inv-loop μ-loop
-turn-requires c κs = search needs
-
-add-slot : tie.Need-add-slot Inv-loop μ-loop
-add-slot c = search needs
-
-loop-less : tie.Need-loop-less Inv-loop μ-loop
-loop-less c = search needs
-
 loop-again : tie.Need-loop-again Inv-loop μ-loop
 unfolding turnsUpTo
 loop-again c = (rw (add-one, c .turn .ensures, ← c .before .before .loop .inv .0), search needs, rw (c .turn .ensures) (turn-counts (c .before .before .before .args .trip) (c .before .before .loop .slot) (c .before .before .loop .done) (c .before .before .loop .inv .2)))
@@ -41,4 +32,4 @@ returns c =
 pub turns-spec : {M : Type 1} → statement M
 turns-spec =
     tie.close
-    (tie.spec Inv-loop μ-loop loop-holds turn-requires add-slot loop-less loop-again returns)
+    (tie.spec Inv-loop μ-loop loop-holds (λ c κs. search needs) (λ c. search needs) (λ c. search needs) loop-again returns)

@@ -3,12 +3,6 @@ use borrow.Author.Needs.{needs}
 use Rattle.parts.proofs.objects.restored.Statement.{statement}
 use Rattle.parts.proofs.objects.restored.Tie as tie
 
-is-held-by-requires : tie.Need-is-held-by-requires
-is-held-by-requires c κs = search needs
-
-unheld-requires : tie.Need-unheld-requires
-unheld-requires c κs = search needs
-
 returns : tie.Need-returns
 returns c = rw (c .unheld .ensures, ← c .before .before .is-held-by .ensures, c .before .if1 .taken)
 
@@ -16,4 +10,4 @@ returns-2 : tie.Need-returns-2
 returns-2 c = rw (← c .before .is-held-by .ensures, c .if1 .left)
 
 pub restored-spec : {M : Type 1} → statement M
-restored-spec = tie.close (tie.spec is-held-by-requires unheld-requires returns returns-2)
+restored-spec = tie.close (tie.spec (λ c κs. search needs) (λ c κs. search needs) returns returns-2)

@@ -18,21 +18,6 @@ loop-holds : tie.Need-loop-holds Inv-loop μ-loop
 unfolding metUpTo
 loop-holds c = (refl, search needs)
 
-mul-met : tie.Need-mul-met Inv-loop μ-loop
-mul-met c = search needs
-
-array-read-met : tie.Need-array-read-met Inv-loop μ-loop
-array-read-met c = search needs
-
-received-by-requires : tie.Need-received-by-requires Inv-loop μ-loop
-received-by-requires c κs = search needs
-
-add-d : tie.Need-add-d Inv-loop μ-loop
-add-d c = search needs
-
-loop-less : tie.Need-loop-less Inv-loop μ-loop
-loop-less c = search needs
-
 loop-again : tie.Need-loop-again Inv-loop μ-loop
 unfolding metUpTo
 loop-again c = (rw (add-one, c .received-by .ensures, ← c .before .before .loop .inv .0), search needs)
@@ -48,10 +33,10 @@ all-met-spec =
     Inv-loop
     μ-loop
     loop-holds
-    mul-met
-    array-read-met
-    received-by-requires
-    add-d
-    loop-less
+    (λ c. search needs)
+    (λ c. search needs)
+    (λ c κs. search needs)
+    (λ c. search needs)
+    (λ c. search needs)
     loop-again
     returns)

@@ -5,12 +5,9 @@ use Rattle.parts.proofs.Eight.{ones-of-byte}
 use Rattle.parts.proofs.rounds.answer_count.Statement.{statement}
 use Rattle.parts.proofs.rounds.answer_count.Tie as tie
 
-cast-result : tie.Need-cast-result
-cast-result c = search needs
-
 returns : tie.Need-returns
 unfolding answerCount
 returns c = ones-of-byte (c .before .args .round .answered) (search needs)
 
 pub answer-count-spec : {M : Type 1} → statement M
-answer-count-spec = tie.close (tie.spec cast-result returns)
+answer-count-spec = tie.close (tie.spec (λ c. search needs) returns)

@@ -4,50 +4,26 @@ use Rattle.parts.proofs.Eight.{most-of-eight}
 use Rattle.parts.proofs.rounds.balances_next.Statement.{statement}
 use Rattle.parts.proofs.rounds.balances_next.Tie as tie
 
-array-read-balance-next : tie.Need-array-read-balance-next
-array-read-balance-next c = search needs
-
 balance-next-requires : tie.Need-balance-next-requires
 balance-next-requires c κs = (search needs, search needs, c .pre .1 0)
-
-array-read-balance-next-2 : tie.Need-array-read-balance-next-2
-array-read-balance-next-2 c = search needs
 
 balance-next-requires-2 : tie.Need-balance-next-requires-2
 balance-next-requires-2 c κs = (search needs, search needs, c .before .pre .1 1)
 
-array-read-balance-next-3 : tie.Need-array-read-balance-next-3
-array-read-balance-next-3 c = search needs
-
 balance-next-requires-3 : tie.Need-balance-next-requires-3
 balance-next-requires-3 c κs = (search needs, search needs, c .before .before .pre .1 2)
-
-array-read-balance-next-4 : tie.Need-array-read-balance-next-4
-array-read-balance-next-4 c = search needs
 
 balance-next-requires-4 : tie.Need-balance-next-requires-4
 balance-next-requires-4 c κs = (search needs, search needs, c .before .before .before .pre .1 3)
 
-array-read-balance-next-5 : tie.Need-array-read-balance-next-5
-array-read-balance-next-5 c = search needs
-
 balance-next-requires-5 : tie.Need-balance-next-requires-5
 balance-next-requires-5 c κs = (search needs, search needs, c .before .before .before .before .pre .1 4)
-
-array-read-balance-next-6 : tie.Need-array-read-balance-next-6
-array-read-balance-next-6 c = search needs
 
 balance-next-requires-6 : tie.Need-balance-next-requires-6
 balance-next-requires-6 c κs = (search needs, search needs, c .before .before .before .before .before .pre .1 5)
 
-array-read-balance-next-7 : tie.Need-array-read-balance-next-7
-array-read-balance-next-7 c = search needs
-
 balance-next-requires-7 : tie.Need-balance-next-requires-7
 balance-next-requires-7 c κs = (search needs, search needs, c .before .before .before .before .before .before .pre .1 6)
-
-array-read-balance-next-8 : tie.Need-array-read-balance-next-8
-array-read-balance-next-8 c = search needs
 
 balance-next-requires-8 : tie.Need-balance-next-requires-8
 balance-next-requires-8 c κs = (search needs, search needs, c .before .before .before .before .before .before .before .pre .1 7)
@@ -59,20 +35,20 @@ pub balances-next-spec : {M : Type 1} → statement M
 balances-next-spec =
     tie.close
     (tie.spec
-    array-read-balance-next
+    (λ c. search needs)
     balance-next-requires
-    array-read-balance-next-2
+    (λ c. search needs)
     balance-next-requires-2
-    array-read-balance-next-3
+    (λ c. search needs)
     balance-next-requires-3
-    array-read-balance-next-4
+    (λ c. search needs)
     balance-next-requires-4
-    array-read-balance-next-5
+    (λ c. search needs)
     balance-next-requires-5
-    array-read-balance-next-6
+    (λ c. search needs)
     balance-next-requires-6
-    array-read-balance-next-7
+    (λ c. search needs)
     balance-next-requires-7
-    array-read-balance-next-8
+    (λ c. search needs)
     balance-next-requires-8
     returns)

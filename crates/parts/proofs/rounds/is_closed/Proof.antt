@@ -24,18 +24,9 @@ loop-holds c = (refl, most-of-eight zero-le zero-le zero-le zero-le zero-le zero
 balances-next-requires : tie.Need-balances-next-requires Inv-loop μ-loop
 balances-next-requires c κs = (search needs, c .before .loop .inv .1)
 
-add-s : tie.Need-add-s Inv-loop μ-loop
-add-s c = search needs
-
-loop-less : tie.Need-loop-less Inv-loop μ-loop
-loop-less c = search needs
-
 loop-again : tie.Need-loop-again Inv-loop μ-loop
 unfolding balancesUpTo
 loop-again c = (rw (add-one, c .balances-next .ensures .0, ← c .before .before .loop .inv .0), c .balances-next .ensures .1, search needs)
-
-all-met-requires : tie.Need-all-met-requires Inv-loop μ-loop
-all-met-requires c κs = search needs
 
 returns : tie.Need-returns Inv-loop μ-loop
 returns c =
@@ -50,8 +41,8 @@ is-closed-spec =
     μ-loop
     loop-holds
     balances-next-requires
-    add-s
-    loop-less
+    (λ c. search needs)
+    (λ c. search needs)
     loop-again
-    all-met-requires
+    (λ c κs. search needs)
     returns)

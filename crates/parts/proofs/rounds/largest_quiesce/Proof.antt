@@ -20,18 +20,6 @@ loop-holds : tie.Need-loop-holds Inv-loop μ-loop
 unfolding mostUpTo
 loop-holds c = (refl, search needs)
 
-quiesce-by-requires : tie.Need-quiesce-by-requires Inv-loop μ-loop
-quiesce-by-requires c κs = search needs
-
-larger-requires : tie.Need-larger-requires Inv-loop μ-loop
-larger-requires c κs = search needs
-
-add-s : tie.Need-add-s Inv-loop μ-loop
-add-s c = search needs
-
-loop-less : tie.Need-loop-less Inv-loop μ-loop
-loop-less c = search needs
-
 loop-again : tie.Need-loop-again Inv-loop μ-loop
 unfolding mostUpTo
 loop-again c = (rw (add-one, c .larger .ensures, c .before .quiesce-by .ensures, ← c .before .before .before .loop .inv .0), search needs)
@@ -48,9 +36,9 @@ largest-quiesce-spec =
     Inv-loop
     μ-loop
     loop-holds
-    quiesce-by-requires
-    larger-requires
-    add-s
-    loop-less
+    (λ c κs. search needs)
+    (λ c κs. search needs)
+    (λ c. search needs)
+    (λ c. search needs)
     loop-again
     returns)

@@ -3,11 +3,8 @@ use borrow.Author.Needs.{needs}
 use Rattle.parts.proofs.rounds.no_round.Statement.{statement}
 use Rattle.parts.proofs.rounds.no_round.Tie as tie
 
-no-figures-requires : tie.Need-no-figures-requires
-no-figures-requires c κs = search needs
-
 returns : tie.Need-returns
 returns c = rw (c .no-figures .ensures)
 
 pub no-round-spec : {M : Type 1} → statement M
-no-round-spec = tie.close (tie.spec no-figures-requires returns)
+no-round-spec = tie.close (tie.spec (λ c κs. search needs) returns)

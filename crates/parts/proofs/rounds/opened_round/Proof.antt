@@ -3,14 +3,8 @@ use borrow.Author.Needs.{needs}
 use Rattle.parts.proofs.rounds.opened_round.Statement.{statement}
 use Rattle.parts.proofs.rounds.opened_round.Tie as tie
 
-no-figures-requires : tie.Need-no-figures-requires
-no-figures-requires c κs = search needs
-
-add-t4 : tie.Need-add-t4
-add-t4 c = search needs
-
 returns : tie.Need-returns
 returns c = rw (c .before .no-figures .ensures)
 
 pub opened-round-spec : {M : Type 1} → statement M
-opened-round-spec = tie.close (tie.spec no-figures-requires add-t4 returns)
+opened-round-spec = tie.close (tie.spec (λ c κs. search needs) (λ c. search needs) returns)

@@ -3,15 +3,6 @@ use borrow.Author.Needs.{needs}
 use Rattle.parts.proofs.rounds.quiesce_by.Statement.{statement}
 use Rattle.parts.proofs.rounds.quiesce_by.Tie as tie
 
-has-answered-requires : tie.Need-has-answered-requires
-has-answered-requires c κs = search needs
-
-mul-f : tie.Need-mul-f
-mul-f c = search needs
-
-element-copy-out-f : tie.Need-element-copy-out-f
-element-copy-out-f c = search needs
-
 returns : tie.Need-returns
 returns c = rw (← c .before .before .has-answered .ensures, c .before .if1 .taken)
 
@@ -20,4 +11,4 @@ returns-2 c = rw (← c .before .has-answered .ensures, c .if1 .left)
 
 pub quiesce-by-spec : {M : Type 1} → statement M
 quiesce-by-spec =
-    tie.close (tie.spec has-answered-requires mul-f element-copy-out-f returns returns-2)
+    tie.close (tie.spec (λ c κs. search needs) (λ c. search needs) (λ c. search needs) returns returns-2)

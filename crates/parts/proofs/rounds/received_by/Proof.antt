@@ -3,18 +3,6 @@ use borrow.Author.Needs.{needs}
 use Rattle.parts.proofs.rounds.received_by.Statement.{statement}
 use Rattle.parts.proofs.rounds.received_by.Tie as tie
 
-has-answered-requires : tie.Need-has-answered-requires
-has-answered-requires c κs = search needs
-
-mul-f : tie.Need-mul-f
-mul-f c = search needs
-
-element-copy-out-f : tie.Need-element-copy-out-f
-element-copy-out-f c = search needs
-
-wide-requires : tie.Need-wide-requires
-wide-requires c κs = search needs
-
 returns : tie.Need-returns
 returns c = rw (c .wide .ensures .0, ← c .before .before .before .has-answered .ensures, c .before .before .if1 .taken)
 
@@ -24,4 +12,4 @@ returns-2 c = rw (← c .before .has-answered .ensures, c .if1 .left)
 pub received-by-spec : {M : Type 1} → statement M
 received-by-spec =
     tie.close
-    (tie.spec has-answered-requires mul-f element-copy-out-f wide-requires returns returns-2)
+    (tie.spec (λ c κs. search needs) (λ c. search needs) (λ c. search needs) (λ c κs. search needs) returns returns-2)

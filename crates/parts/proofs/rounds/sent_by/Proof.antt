@@ -3,24 +3,6 @@ use borrow.Author.Needs.{needs}
 use Rattle.parts.proofs.rounds.sent_by.Statement.{statement}
 use Rattle.parts.proofs.rounds.sent_by.Tie as tie
 
-has-answered-requires : tie.Need-has-answered-requires
-has-answered-requires c κs = search needs
-
-mul-f : tie.Need-mul-f
-mul-f c = search needs
-
-element-copy-out-f : tie.Need-element-copy-out-f
-element-copy-out-f c = search needs
-
-mul-wide : tie.Need-mul-wide
-mul-wide c = search needs
-
-element-copy-out-wide : tie.Need-element-copy-out-wide
-element-copy-out-wide c = search needs
-
-wide-requires : tie.Need-wide-requires
-wide-requires c κs = search needs
-
 returns : tie.Need-returns
 returns c = (rw (c .wide .ensures .0, ← c .before .before .before .before .has-answered .ensures, c .before .before .before .if1 .taken), c .wide .ensures .1)
 
@@ -31,11 +13,11 @@ pub sent-by-spec : {M : Type 1} → statement M
 sent-by-spec =
     tie.close
     (tie.spec
-    has-answered-requires
-    mul-f
-    element-copy-out-f
-    mul-wide
-    element-copy-out-wide
-    wide-requires
+    (λ c κs. search needs)
+    (λ c. search needs)
+    (λ c. search needs)
+    (λ c. search needs)
+    (λ c. search needs)
+    (λ c κs. search needs)
     returns
     returns-2)

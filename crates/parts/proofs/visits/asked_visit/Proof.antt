@@ -3,36 +3,6 @@ use borrow.Author.Needs.{needs}
 use Rattle.parts.proofs.visits.asked_visit.Statement.{statement}
 use Rattle.parts.proofs.visits.asked_visit.Tie as tie
 
-enum-known-asked : tie.Need-enum-known-asked
-enum-known-asked c = search needs
-
-larger-requires : tie.Need-larger-requires
-larger-requires c κs = search needs
-
-with-times-requires : tie.Need-with-times-requires
-with-times-requires c κs = search needs
-
-numbered-requires : tie.Need-numbered-requires
-numbered-requires c κs = search needs
-
-enum-told : tie.Need-enum-told
-enum-told c = search needs
-
-quieted-requires : tie.Need-quieted-requires
-quieted-requires c κs = search needs
-
-numbered-requires-2 : tie.Need-numbered-requires-2
-numbered-requires-2 c κs = search needs
-
-enum-told-2 : tie.Need-enum-told-2
-enum-told-2 c = search needs
-
-quieted-requires-2 : tie.Need-quieted-requires-2
-quieted-requires-2 c κs = search needs
-
-numbered-requires-3 : tie.Need-numbered-requires-3
-numbered-requires-3 c κs = search needs
-
 returns : tie.Need-returns
 returns c = rw (c .numbered .ensures, c .before .with-times .ensures, c .before .before .larger .ensures, c .before .before .before .before .asked .given .1)
 
@@ -46,16 +16,16 @@ pub asked-visit-spec : {M : Type 1} → statement M
 asked-visit-spec =
     tie.close
     (tie.spec
-    enum-known-asked
-    larger-requires
-    with-times-requires
-    numbered-requires
-    enum-told
-    quieted-requires
-    numbered-requires-2
-    enum-told-2
-    quieted-requires-2
-    numbered-requires-3
+    (λ c. search needs)
+    (λ c κs. search needs)
+    (λ c κs. search needs)
+    (λ c κs. search needs)
+    (λ c. search needs)
+    (λ c κs. search needs)
+    (λ c κs. search needs)
+    (λ c. search needs)
+    (λ c κs. search needs)
+    (λ c κs. search needs)
     returns
     returns-2
     returns-3)

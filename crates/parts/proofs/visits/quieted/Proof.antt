@@ -3,11 +3,8 @@ use borrow.Author.Needs.{needs}
 use Rattle.parts.proofs.visits.quieted.Statement.{statement}
 use Rattle.parts.proofs.visits.quieted.Tie as tie
 
-least-requires : tie.Need-least-requires
-least-requires c κs = search needs
-
 returns : tie.Need-returns
 returns c = rw (c .least .ensures)
 
 pub quieted-spec : {M : Type 1} → statement M
-quieted-spec = tie.close (tie.spec least-requires returns)
+quieted-spec = tie.close (tie.spec (λ c κs. search needs) returns)

@@ -3,24 +3,6 @@ use borrow.Author.Needs.{needs}
 use Rattle.places.proofs.look.site_place.Statement.{statement}
 use Rattle.places.proofs.look.site_place.Tie as tie
 
-enum-known-at : tie.Need-enum-known-at
-enum-known-at c = search needs
-
-cast-result : tie.Need-cast-result
-cast-result c = search needs
-
-enum-told : tie.Need-enum-told
-enum-told c = search needs
-
-cast-result-2 : tie.Need-cast-result-2
-cast-result-2 c = search needs
-
-enum-told-2 : tie.Need-enum-told-2
-enum-told-2 c = search needs
-
-cast-result-3 : tie.Need-cast-result-3
-cast-result-3 c = search needs
-
 returns : tie.Need-returns
 returns c = (rw (c .before .at .given .1), search needs)
 
@@ -34,12 +16,12 @@ pub site-place-spec : {M : Type 1} → statement M
 site-place-spec =
     tie.close
     (tie.spec
-    enum-known-at
-    cast-result
-    enum-told
-    cast-result-2
-    enum-told-2
-    cast-result-3
+    (λ c. search needs)
+    (λ c. search needs)
+    (λ c. search needs)
+    (λ c. search needs)
+    (λ c. search needs)
+    (λ c. search needs)
     returns
     returns-2
     returns-3)

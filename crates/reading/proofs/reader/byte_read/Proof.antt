@@ -4,20 +4,8 @@ use borrow.Author.Needs.{needs}
 use Rattle.reading.proofs.reader.byte_read.Statement.{statement}
 use Rattle.reading.proofs.reader.byte_read.Tie as tie
 
-scan-next-requires : tie.Need-scan-next-requires
-scan-next-requires c κs = search needs
-
-add-reading : tie.Need-add-reading
-add-reading c = search needs
-
-reading-requires : tie.Need-reading-requires
-reading-requires c κs = search needs
-
 returns : tie.Need-returns
 returns c = rw (c .reading .ensures, c .before .before .scan-next .ensures, lt-ltb (c .before .before .before .before .before .before .args .r .length) 1000 (c .before .before .before .before .if1 .taken))
-
-stopped-requires : tie.Need-stopped-requires
-stopped-requires c κs = search needs
 
 returns-2 : tie.Need-returns-2
 returns-2 c = rw (c .stopped .ensures, le-ltb (c .before .before .before .args .r .length) 1000 (c .before .if1 .left))
@@ -25,4 +13,4 @@ returns-2 c = rw (c .stopped .ensures, le-ltb (c .before .before .before .args .
 pub byte-read-spec : {M : Type 1} → statement M
 byte-read-spec =
     tie.close
-    (tie.spec scan-next-requires add-reading reading-requires returns stopped-requires returns-2)
+    (tie.spec (λ c κs. search needs) (λ c. search needs) (λ c κs. search needs) returns (λ c κs. search needs) returns-2)

@@ -4,18 +4,6 @@ use borrow.Author.Needs.{needs}
 use Rattle.reading.proofs.reader.gives_record.Statement.{statement}
 use Rattle.reading.proofs.reader.gives_record.Tie as tie
 
-end-of-requires : tie.Need-end-of-requires
-end-of-requires c κs = search needs
-
-verdict-of-requires : tie.Need-verdict-of-requires
-verdict-of-requires c κs = search needs
-
-is-going-requires : tie.Need-is-going-requires
-is-going-requires c κs = search needs
-
-says-record-requires : tie.Need-says-record-requires
-says-record-requires c κs = search needs
-
 returns : tie.Need-returns
 unfolding givesRecord
 returns c = rw (c .before .before .says-record .ensures, c .before .before .before .is-going .ensures, c .before .before .before .before .verdict-of .ensures, c .before .before .before .before .before .end-of .ensures)
@@ -23,4 +11,4 @@ returns c = rw (c .before .before .says-record .ensures, c .before .before .befo
 pub gives-record-spec : {M : Type 1} → statement M
 gives-record-spec =
     tie.close
-    (tie.spec end-of-requires verdict-of-requires is-going-requires says-record-requires returns)
+    (tie.spec (λ c κs. search needs) (λ c κs. search needs) (λ c κs. search needs) (λ c κs. search needs) returns)

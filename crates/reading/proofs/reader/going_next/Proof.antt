@@ -4,17 +4,11 @@ use borrow.Author.Needs.{needs}
 use Rattle.reading.proofs.reader.going_next.Statement.{statement}
 use Rattle.reading.proofs.reader.going_next.Tie as tie
 
-line-ended-requires : tie.Need-line-ended-requires
-line-ended-requires c κs = search needs
-
 returns : tie.Need-returns
 returns c = rw (c .line-ended .ensures, c .before .if1 .taken)
-
-byte-read-requires : tie.Need-byte-read-requires
-byte-read-requires c κs = search needs
 
 returns-2 : tie.Need-returns-2
 returns-2 c = rw (c .byte-read .ensures, ne-eqb (c .before .before .args .b) 10 (c .before .if1 .left))
 
 pub going-next-spec : {M : Type 1} → statement M
-going-next-spec = tie.close (tie.spec line-ended-requires returns byte-read-requires returns-2)
+going-next-spec = tie.close (tie.spec (λ c κs. search needs) returns (λ c κs. search needs) returns-2)

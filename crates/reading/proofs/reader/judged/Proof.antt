@@ -3,30 +3,6 @@ use borrow.Author.Needs.{needs}
 use Rattle.reading.proofs.reader.judged.Statement.{statement}
 use Rattle.reading.proofs.reader.judged.Tie as tie
 
-enum-told : tie.Need-enum-told
-enum-told c = search needs
-
-blank-requires : tie.Need-blank-requires
-blank-requires c κs = search needs
-
-add-reading : tie.Need-add-reading
-add-reading c = search needs
-
-reading-requires : tie.Need-reading-requires
-reading-requires c κs = search needs
-
-enum-told-2 : tie.Need-enum-told-2
-enum-told-2 c = search needs
-
-recorded-requires : tie.Need-recorded-requires
-recorded-requires c κs = search needs
-
-enum-known-v : tie.Need-enum-known-v
-enum-known-v c = search needs
-
-stopped-requires : tie.Need-stopped-requires
-stopped-requires c κs = search needs
-
 returns : tie.Need-returns
 returns c = rw (c .reading .ensures, c .before .before .blank .ensures, c .before .before .before .enum-told .given .1)
 
@@ -40,14 +16,14 @@ pub judged-spec : {M : Type 1} → statement M
 judged-spec =
     tie.close
     (tie.spec
-    enum-told
-    blank-requires
-    add-reading
-    reading-requires
-    enum-told-2
-    recorded-requires
-    enum-known-v
-    stopped-requires
+    (λ c. search needs)
+    (λ c κs. search needs)
+    (λ c. search needs)
+    (λ c κs. search needs)
+    (λ c. search needs)
+    (λ c κs. search needs)
+    (λ c. search needs)
+    (λ c κs. search needs)
     returns
     returns-2
     returns-3)

@@ -4,20 +4,8 @@ use borrow.Author.Needs.{needs}
 use Rattle.reading.proofs.reader.line_ended.Statement.{statement}
 use Rattle.reading.proofs.reader.line_ended.Tie as tie
 
-end-of-requires : tie.Need-end-of-requires
-end-of-requires c κs = search needs
-
-verdict-of-requires : tie.Need-verdict-of-requires
-verdict-of-requires c κs = search needs
-
-judged-requires : tie.Need-judged-requires
-judged-requires c κs = search needs
-
 returns : tie.Need-returns
 returns c = rw (c .judged .ensures, c .before .verdict-of .ensures, c .before .before .end-of .ensures, lt-ltb (c .before .before .before .before .before .before .args .r .lines) 1000000 (c .before .before .before .before .if1 .taken))
-
-stopped-requires : tie.Need-stopped-requires
-stopped-requires c κs = search needs
 
 returns-2 : tie.Need-returns-2
 returns-2 c = rw (c .stopped .ensures, le-ltb (c .before .before .before .args .r .lines) 1000000 (c .before .if1 .left))
@@ -26,9 +14,9 @@ pub line-ended-spec : {M : Type 1} → statement M
 line-ended-spec =
     tie.close
     (tie.spec
-    end-of-requires
-    verdict-of-requires
-    judged-requires
+    (λ c κs. search needs)
+    (λ c κs. search needs)
+    (λ c κs. search needs)
     returns
-    stopped-requires
+    (λ c κs. search needs)
     returns-2)

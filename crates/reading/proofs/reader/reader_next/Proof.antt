@@ -4,15 +4,6 @@ use borrow.Author.Needs.{needs}
 use Rattle.reading.proofs.reader.reader_next.Statement.{statement}
 use Rattle.reading.proofs.reader.reader_next.Tie as tie
 
-enum-told : tie.Need-enum-told
-enum-told c = search needs
-
-going-next-requires : tie.Need-going-next-requires
-going-next-requires c κs = search needs
-
-enum-told-2 : tie.Need-enum-told-2
-enum-told-2 c = search needs
-
 returns : tie.Need-returns
 unfolding readerNext
 returns c = rw (c .going-next .ensures, c .before .enum-told .given .1)
@@ -22,4 +13,4 @@ unfolding readerNext
 returns-2 c = rw (c .enum-told2 .given .1)
 
 pub reader-next-spec : {M : Type 1} → statement M
-reader-next-spec = tie.close (tie.spec enum-told going-next-requires enum-told-2 returns returns-2)
+reader-next-spec = tie.close (tie.spec (λ c. search needs) (λ c κs. search needs) (λ c. search needs) returns returns-2)

@@ -14,30 +14,6 @@ use borrow.Author.Needs.{needs}
 use Rattle.reading.proofs.sheet.put_answer.Statement.{statement}
 use Rattle.reading.proofs.sheet.put_answer.Tie as tie
 
-read-text-requires : tie.Need-read-text-requires
-read-text-requires c κs = search needs
-
-cast-line : tie.Need-cast-line
-cast-line c = search needs
-
-add-line : tie.Need-add-line
-add-line c = search needs
-
-enum-told : tie.Need-enum-told
-enum-told c = search needs
-
-put-records-requires : tie.Need-put-records-requires
-put-records-requires c κs = search needs
-
-put-trailer-requires : tie.Need-put-trailer-requires
-put-trailer-requires c κs = search needs
-
-enum-known-stop : tie.Need-enum-known-stop
-enum-known-stop c = search needs
-
-put-fault-line-requires : tie.Need-put-fault-line-requires
-put-fault-line-requires c κs = search needs
-
 returns : tie.Need-returns
 returns c = let e : textRead (c .before .before .before .before .before .before .before .before .before .args .text .now) .reader .stop ≡ Stop.Going = ap (λ (r : Reader). r .stop) (sym (c .before .before .before .before .before .before .before .read-text .ensures)) ∙ c .before .before .before .before .enum-told .given .1 in let a : c .before .before .put-records .result ≡ length (textRead (c .before .before .before .before .before .before .before .before .before .args .text .now) .records) = omega (arith, c .before .before .put-records .ensures .0 .ends) in let q : textRead (c .before .before .before .before .before .before .before .before .before .args .text .now) .records ++ trailerOf (c .before .before .put-records .result) ≡ answerText (c .before .before .before .before .before .before .before .before .before .args .text .now) = rw a (sheet-taken (c .before .before .before .before .before .before .before .before .before .args .text .now) e) in let l : length (c .before .before .before .before .before .before .before .before .before .args .out .now) ≡ 65536 = search needs in let x = c .put-trailer .ensures .ends in (rw q at (put-both zero-le (c .before .before .put-records .ensures .0) (c .put-trailer .ensures)), omega (arith, c .put-trailer .kept .0, c .before .before .put-records .kept .1 .0))
 
@@ -48,13 +24,13 @@ pub put-answer-spec : {M : Type 1} → statement M
 put-answer-spec =
     tie.close
     (tie.spec
-    read-text-requires
-    cast-line
-    add-line
-    enum-told
-    put-records-requires
-    put-trailer-requires
-    enum-known-stop
-    put-fault-line-requires
+    (λ c κs. search needs)
+    (λ c. search needs)
+    (λ c. search needs)
+    (λ c. search needs)
+    (λ c κs. search needs)
+    (λ c κs. search needs)
+    (λ c. search needs)
+    (λ c κs. search needs)
     returns
     returns-2)

@@ -11,20 +11,8 @@ use borrow.Author.Needs.{needs}
 use Rattle.reading.proofs.sheet.put_given.Statement.{statement}
 use Rattle.reading.proofs.sheet.put_given.Tie as tie
 
-gives-record-requires : tie.Need-gives-record-requires
-gives-record-requires c κs = search needs
-
-end-of-requires : tie.Need-end-of-requires
-end-of-requires c κs = search needs
-
-slice-aggregate-put-text : tie.Need-slice-aggregate-put-text
-slice-aggregate-put-text c = search needs
-
 put-text-requires : tie.Need-put-text-requires
 put-text-requires c κs = let g : givesRecord (c .before .before .before .before .before .before .before .before .args .r) (c .before .before .before .before .before .before .before .before .args .b) ≡ true = rw (c .before .before .before .before .before .before .gives-record .ensures) at (c .before .before .before .before .before .if1 .taken) in let k : c .before .before .before .before .before .before .before .before .args .r .count < 4095 = gives-room (c .before .before .before .before .before .before .before .before .args .r) (c .before .before .before .before .before .before .before .before .args .b) g in let l : length (c .before .before .before .end-of .result .bytes) ≡ 16 = search needs in omega arith
-
-same-length : tie.Need-same-length
-same-length c = search needs
 
 returns : tie.Need-returns
 unfolding given
@@ -38,10 +26,10 @@ pub put-given-spec : {M : Type 1} → statement M
 put-given-spec =
     tie.close
     (tie.spec
-    gives-record-requires
-    end-of-requires
-    slice-aggregate-put-text
+    (λ c κs. search needs)
+    (λ c κs. search needs)
+    (λ c. search needs)
     put-text-requires
-    same-length
+    (λ c. search needs)
     returns
     returns-2)

@@ -18,27 +18,12 @@ Inv-loop text out₀ r₀ at₀ i₀ out r at i = (r ≡ readAll unread (take i 
 abbrev μ-loop : tie.MeasureT-loop
 μ-loop text out₀ r₀ at₀ i₀ out r at i = length text - i
 
-unread-requires : tie.Need-unread-requires Inv-loop μ-loop
-unread-requires c κs = search needs
-
 loop-holds : tie.Need-loop-holds Inv-loop μ-loop
 unfolding readAll
 loop-holds c = (c .unread .ensures, put-none _ 0, rw (c .unread .ensures) (omega arith), rw (c .unread .ensures) (omega arith), search needs, refl)
 
-shared-slice-read-b : tie.Need-shared-slice-read-b Inv-loop μ-loop
-shared-slice-read-b c = search needs
-
 put-given-requires : tie.Need-put-given-requires Inv-loop μ-loop
 put-given-requires c κs = (c .before .before .before .loop .inv .2, omega arith)
-
-reader-next-requires : tie.Need-reader-next-requires Inv-loop μ-loop
-reader-next-requires c κs = search needs
-
-add-i : tie.Need-add-i Inv-loop μ-loop
-add-i c = search needs
-
-loop-less : tie.Need-loop-less Inv-loop μ-loop
-loop-less c = search needs
 
 loop-again : tie.Need-loop-again Inv-loop μ-loop
 loop-again c = let q : readAll unread (take (c .before .before .before .before .before .before .before .loop .i) (c .before .before .before .before .before .before .before .before .before .before .before .args .text .now)) .records ++ given (c .before .before .before .before .before .before .before .loop .r) (getD (c .before .before .before .before .before .before .before .before .before .before .before .args .text .now) (c .before .before .before .before .before .before .before .loop .i) 0) ≡ readAll unread (take (c .before .before .before .before .before .before .before .loop .i + 1) (c .before .before .before .before .before .before .before .before .before .before .before .args .text .now)) .records = rw (c .before .before .before .before .before .before .before .loop .inv .0) (records-more unread (c .before .before .before .before .before .before .before .before .before .before .before .args .text .now) (c .before .before .before .before .before .before .before .loop .i) (search needs)) in (rw (c .reader-next .ensures, c .before .before .before .before .before .before .before .loop .inv .0) (reader-more unread (c .before .before .before .before .before .before .before .before .before .before .before .args .text .now) (c .before .before .before .before .before .before .before .loop .i) (search needs)), rw q at (put-both zero-le (c .before .before .before .before .before .before .before .loop .inv .1) (c .before .before .before .put-given .ensures .0)), rw (c .reader-next .ensures) (c .before .before .before .put-given .ensures .1), rw (c .reader-next .ensures) (count-most (c .before .before .before .before .before .before .before .loop .r) (getD (c .before .before .before .before .before .before .before .before .before .before .before .args .text .now) (c .before .before .before .before .before .before .before .loop .i) 0) (c .before .before .before .before .before .before .before .loop .inv .3)), omega arith, c .before .before .before .put-given .kept .1 .1 .0 ∙ c .before .before .before .before .before .before .before .loop .inv .5)
@@ -58,13 +43,13 @@ put-records-spec =
     (tie.spec
     Inv-loop
     μ-loop
-    unread-requires
+    (λ c κs. search needs)
     loop-holds
-    shared-slice-read-b
+    (λ c. search needs)
     put-given-requires
-    reader-next-requires
-    add-i
-    loop-less
+    (λ c κs. search needs)
+    (λ c. search needs)
+    (λ c. search needs)
     loop-again
     put-given-requires-2
     same-length

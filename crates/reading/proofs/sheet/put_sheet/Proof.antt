@@ -8,18 +8,9 @@ use borrow.Author.Needs.{needs}
 use Rattle.reading.proofs.sheet.put_sheet.Statement.{statement}
 use Rattle.reading.proofs.sheet.put_sheet.Tie as tie
 
-slice-aggregate-put-text : tie.Need-slice-aggregate-put-text
-slice-aggregate-put-text c = search needs
-
-put-text-requires : tie.Need-put-text-requires
-put-text-requires c κs = search needs
-
 returns : tie.Need-returns
 unfolding sheetText
 returns c = let l : length (c .before .before .before .before .before .args .out .now) ≡ 65536 = search needs in let x = c .put-text .ensures .ends in (rw (lt-ltb 524288 (length (c .before .before .before .before .before .args .text .now)) (c .before .before .before .if1 .taken)) (c .put-text .ensures), omega (arith, c .put-text .kept .0))
-
-put-answer-requires : tie.Need-put-answer-requires
-put-answer-requires c κs = search needs
 
 returns-2 : tie.Need-returns-2
 unfolding sheetText
@@ -28,4 +19,4 @@ returns-2 c = (rw (le-ltb 524288 (length (c .before .before .before .before .arg
 pub put-sheet-spec : {M : Type 1} → statement M
 put-sheet-spec =
     tie.close
-    (tie.spec slice-aggregate-put-text put-text-requires returns put-answer-requires returns-2)
+    (tie.spec (λ c. search needs) (λ c κs. search needs) returns (λ c κs. search needs) returns-2)

@@ -16,30 +16,12 @@ Inv-loop text r₀ i₀ r i = (r ≡ readAll unread (take i text) .reader) × (i
 abbrev μ-loop : tie.MeasureT-loop
 μ-loop text r₀ i₀ r i = length text - i
 
-unread-requires : tie.Need-unread-requires Inv-loop μ-loop
-unread-requires c κs = search needs
-
 loop-holds : tie.Need-loop-holds Inv-loop μ-loop
 unfolding readAll
 loop-holds c = (c .unread .ensures, search needs)
 
-shared-slice-read-b : tie.Need-shared-slice-read-b Inv-loop μ-loop
-shared-slice-read-b c = search needs
-
-reader-next-requires : tie.Need-reader-next-requires Inv-loop μ-loop
-reader-next-requires c κs = search needs
-
-add-i : tie.Need-add-i Inv-loop μ-loop
-add-i c = search needs
-
-loop-less : tie.Need-loop-less Inv-loop μ-loop
-loop-less c = search needs
-
 loop-again : tie.Need-loop-again Inv-loop μ-loop
 loop-again c = (rw (c .reader-next .ensures, c .before .before .before .loop .inv .0) (reader-more unread (c .before .before .before .before .before .before .args .text .now) (c .before .before .before .loop .i) (search needs)), search needs)
-
-reader-next-requires-2 : tie.Need-reader-next-requires-2 Inv-loop μ-loop
-reader-next-requires-2 c κs = search needs
 
 returns : tie.Need-returns Inv-loop μ-loop
 returns c = let e : c .before .before .loop .i ≡ length (c .before .before .before .before .before .args .text .now) = omega arith in rw (c .reader-next2 .ensures, c .before .before .loop .inv .0, e, take-length (c .before .before .before .before .before .args .text .now)) (reader-whole (c .before .before .before .before .before .args .text .now))
@@ -50,12 +32,12 @@ read-text-spec =
     (tie.spec
     Inv-loop
     μ-loop
-    unread-requires
+    (λ c κs. search needs)
     loop-holds
-    shared-slice-read-b
-    reader-next-requires
-    add-i
-    loop-less
+    (λ c. search needs)
+    (λ c κs. search needs)
+    (λ c. search needs)
+    (λ c. search needs)
     loop-again
-    reader-next-requires-2
+    (λ c κs. search needs)
     returns)

@@ -23,18 +23,6 @@ loop-holds : tie.Need-loop-holds Inv-loop μ-loop
 unfolding hexText
 loop-holds c = (put-none (c .before .args .out .now) (c .before .args .at), omega arith, search needs, refl)
 
-array-read-put-hex : tie.Need-array-read-put-hex Inv-loop μ-loop
-array-read-put-hex c = search needs
-
-put-hex-requires : tie.Need-put-hex-requires Inv-loop μ-loop
-put-hex-requires c κs = omega arith
-
-add-i : tie.Need-add-i Inv-loop μ-loop
-add-i c = search needs
-
-loop-less : tie.Need-loop-less Inv-loop μ-loop
-loop-less c = search needs
-
 loop-again : tie.Need-loop-again Inv-loop μ-loop
 loop-again c = let e = c .before .before .put-hex .ensures .ends in let t = hex-length (getD (c .before .before .before .before .before .before .before .args .t3) (c .before .before .before .before .before .loop .i) 0 ∷ []) in let l : c .before .before .before .before .before .before .before .args .at ≤ length (c .before .before .before .before .before .before .before .args .out .now) = omega arith in let z : length (c .before .before .before .before .before .before .before .args .t3) ≡ 16 = search needs in (rw (bytes-more (c .before .before .before .before .before .before .before .args .t3) (c .before .before .before .before .before .loop .i) (omega arith)) at (put-both l (c .before .before .before .before .before .loop .inv .0) (c .before .before .put-hex .ensures)), omega (arith, t), omega arith, c .before .before .put-hex .kept .0 ∙ c .before .before .before .before .before .loop .inv .3)
 
@@ -51,10 +39,10 @@ put-bytes-spec =
     Inv-loop
     μ-loop
     loop-holds
-    array-read-put-hex
-    put-hex-requires
-    add-i
-    loop-less
+    (λ c. search needs)
+    (λ c κs. omega arith)
+    (λ c. search needs)
+    (λ c. search needs)
     loop-again
     same-length
     returns)

@@ -9,17 +9,11 @@ use borrow.Author.Needs.{needs}
 use Rattle.saying.proofs.line.put_raw.Statement.{statement}
 use Rattle.saying.proofs.line.put_raw.Tie as tie
 
-put-letters-requires : tie.Need-put-letters-requires
-put-letters-requires c κs = search needs
-
 put-byte-requires : tie.Need-put-byte-requires
 put-byte-requires c κs = omega (arith, letters-length 9 18487)
 
 put-bytes-requires : tie.Need-put-bytes-requires
 put-bytes-requires c κs = omega (arith, letters-length 9 18487)
-
-same-length : tie.Need-same-length
-same-length c = search needs
 
 returns : tie.Need-returns
 unfolding rawText
@@ -28,4 +22,4 @@ returns c = let l : c .before .before .before .before .before .before .before .b
 pub put-raw-spec : {M : Type 1} → statement M
 put-raw-spec =
     tie.close
-    (tie.spec put-letters-requires put-byte-requires put-bytes-requires same-length returns)
+    (tie.spec (λ c κs. search needs) put-byte-requires put-bytes-requires (λ c. search needs) returns)

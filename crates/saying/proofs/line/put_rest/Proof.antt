@@ -21,21 +21,6 @@ abbrev μ-loop : tie.MeasureT-loop
 loop-holds : tie.Need-loop-holds Inv-loop μ-loop
 loop-holds c = (put-none (c .before .args .out .now) (c .before .args .at), omega arith, search needs, refl)
 
-mul-t : tie.Need-mul-t Inv-loop μ-loop
-mul-t c = search needs
-
-array-copy-out-t : tie.Need-array-copy-out-t Inv-loop μ-loop
-array-copy-out-t c = search needs
-
-put-token-requires : tie.Need-put-token-requires Inv-loop μ-loop
-put-token-requires c κs = omega arith
-
-add-i : tie.Need-add-i Inv-loop μ-loop
-add-i c = search needs
-
-loop-less : tie.Need-loop-less Inv-loop μ-loop
-loop-less c = search needs
-
 loop-again : tie.Need-loop-again Inv-loop μ-loop
 loop-again c = let l : c .before .before .before .before .before .before .before .before .args .at ≤ length (c .before .before .before .before .before .before .before .before .args .out .now) = omega arith in let z : length (c .before .before .before .before .before .before .before .before .args .t3) ≡ 9 = search needs in let q = pieces-put (c .before .before .before .before .before .before .before .before .args .t3) (c .before .before .before .before .before .before .loop .i) (record { word = false; value = 0 }) l (omega arith) (c .before .before .before .before .before .before .loop .inv .1) (c .before .before .before .before .before .before .loop .inv .0) (c .before .before .put-token .ensures) in (q .0, q .1, omega arith, c .before .before .put-token .kept .0 ∙ c .before .before .before .before .before .before .loop .inv .3)
 
@@ -52,11 +37,11 @@ put-rest-spec =
     Inv-loop
     μ-loop
     loop-holds
-    mul-t
-    array-copy-out-t
-    put-token-requires
-    add-i
-    loop-less
+    (λ c. search needs)
+    (λ c. search needs)
+    (λ c κs. omega arith)
+    (λ c. search needs)
+    (λ c. search needs)
     loop-again
     same-length
     returns)

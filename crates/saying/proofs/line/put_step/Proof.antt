@@ -9,17 +9,8 @@ use borrow.Author.Needs.{needs}
 use Rattle.saying.proofs.line.put_step.Statement.{statement}
 use Rattle.saying.proofs.line.put_step.Tie as tie
 
-tokens-of-requires : tie.Need-tokens-of-requires
-tokens-of-requires c κs = search needs
-
-put-letters-requires : tie.Need-put-letters-requires
-put-letters-requires c κs = search needs
-
 put-rest-requires : tie.Need-put-rest-requires
 put-rest-requires c κs = (omega (arith, letters-length 9 (c .before .before .before .before .before .before .tokens-of .result .first)), c .before .before .before .before .before .before .tokens-of .ensures .few)
-
-same-length : tie.Need-same-length
-same-length c = search needs
 
 returns : tie.Need-returns
 unfolding stepText
@@ -28,4 +19,4 @@ returns c = let l : c .before .before .before .before .before .before .before .b
 pub put-step-spec : {M : Type 1} → statement M
 put-step-spec =
     tie.close
-    (tie.spec tokens-of-requires put-letters-requires put-rest-requires same-length returns)
+    (tie.spec (λ c κs. search needs) (λ c κs. search needs) put-rest-requires (λ c. search needs) returns)

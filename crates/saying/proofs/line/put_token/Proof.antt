@@ -7,23 +7,8 @@ use borrow.Author.Needs.{needs}
 use Rattle.saying.proofs.line.put_token.Statement.{statement}
 use Rattle.saying.proofs.line.put_token.Tie as tie
 
-put-byte-requires : tie.Need-put-byte-requires
-put-byte-requires c κs = search needs
-
-put-letters-requires : tie.Need-put-letters-requires
-put-letters-requires c κs = search needs
-
-same-length : tie.Need-same-length
-same-length c = search needs
-
 returns : tie.Need-returns
 returns c = let l : c .before .before .before .before .before .before .before .before .before .before .args .at ≤ length (c .before .before .before .before .before .before .before .before .before .before .args .out .now) = omega arith in rw (c .before .before .before .before .if1 .taken) (put-both l (c .before .before .before .before .before .before .before .put-byte .ensures) (c .before .before .put-letters .ensures))
-
-put-digits-requires : tie.Need-put-digits-requires
-put-digits-requires c κs = search needs
-
-same-length-2 : tie.Need-same-length-2
-same-length-2 c = search needs
 
 returns-2 : tie.Need-returns-2
 returns-2 c = let l : c .before .before .before .before .before .before .before .before .before .before .args .at ≤ length (c .before .before .before .before .before .before .before .before .before .before .args .out .now) = omega arith in rw (c .before .before .before .before .if1 .left) (put-both l (c .before .before .before .before .before .before .before .put-byte .ensures) (c .before .before .put-digits .ensures))
@@ -32,10 +17,10 @@ pub put-token-spec : {M : Type 1} → statement M
 put-token-spec =
     tie.close
     (tie.spec
-    put-byte-requires
-    put-letters-requires
-    same-length
+    (λ c κs. search needs)
+    (λ c κs. search needs)
+    (λ c. search needs)
     returns
-    put-digits-requires
-    same-length-2
+    (λ c κs. search needs)
+    (λ c. search needs)
     returns-2)

@@ -4,26 +4,14 @@ use borrow.Author.Needs.{needs}
 use Rattle.saying.proofs.tokens.invoke_tokens.Statement.{statement}
 use Rattle.saying.proofs.tokens.invoke_tokens.Tie as tie
 
-write-tokens-requires : tie.Need-write-tokens-requires
-write-tokens-requires c κs = search needs
-
 returns : tie.Need-returns
 returns c = rw (c .before .if1 .taken) (c .write-tokens .ensures)
-
-other-tokens-requires : tie.Need-other-tokens-requires
-other-tokens-requires c κs = search needs
 
 returns-2 : tie.Need-returns-2
 returns-2 c = rw (ne-eqb (c .before .before .before .args .write) 1 (c .before .before .if1 .left), ne-eqb (c .before .before .before .args .write) 0 (c .before .if2 .taken)) (c .other-tokens .ensures)
 
-read-tokens-requires : tie.Need-read-tokens-requires
-read-tokens-requires c κs = search needs
-
 returns-3 : tie.Need-returns-3
 returns-3 c = rw (c .before .before .if2 .left, c .before .if3 .taken) (c .read-tokens .ensures)
-
-read-value-tokens-requires : tie.Need-read-value-tokens-requires
-read-value-tokens-requires c κs = search needs
 
 returns-4 : tie.Need-returns-4
 returns-4 c = rw (c .before .before .if2 .left, ne-eqb (c .before .before .before .before .args .value) 0 (c .before .if3 .left)) (c .read-value-tokens .ensures)
@@ -32,11 +20,11 @@ pub invoke-tokens-spec : {M : Type 1} → statement M
 invoke-tokens-spec =
     tie.close
     (tie.spec
-    write-tokens-requires
+    (λ c κs. search needs)
     returns
-    other-tokens-requires
+    (λ c κs. search needs)
     returns-2
-    read-tokens-requires
+    (λ c κs. search needs)
     returns-3
-    read-value-tokens-requires
+    (λ c κs. search needs)
     returns-4)

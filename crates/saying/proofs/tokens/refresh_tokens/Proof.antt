@@ -5,33 +5,6 @@ use borrow.Author.Needs.{needs}
 use Rattle.saying.proofs.tokens.refresh_tokens.Statement.{statement}
 use Rattle.saying.proofs.tokens.refresh_tokens.Tie as tie
 
-number-requires : tie.Need-number-requires
-number-requires c κs = search needs
-
-word-requires : tie.Need-word-requires
-word-requires c κs = search needs
-
-number-requires-2 : tie.Need-number-requires-2
-number-requires-2 c κs = search needs
-
-word-requires-2 : tie.Need-word-requires-2
-word-requires-2 c κs = search needs
-
-number-requires-3 : tie.Need-number-requires-3
-number-requires-3 c κs = search needs
-
-word-requires-3 : tie.Need-word-requires-3
-word-requires-3 c κs = search needs
-
-word-requires-4 : tie.Need-word-requires-4
-word-requires-4 c κs = search needs
-
-word-requires-5 : tie.Need-word-requires-5
-word-requires-5 c κs = search needs
-
-word-requires-6 : tie.Need-word-requires-6
-word-requires-6 c κs = search needs
-
 returns : tie.Need-returns
 returns c = record { first = refl; more = rw (c .before .before .before .before .number3 .ensures, c .before .before .before .before .before .word2 .ensures, c .before .before .before .before .before .before .number2 .ensures, c .before .before .before .before .before .before .before .word .ensures, c .before .before .before .before .before .before .before .before .number .ensures); few = omega arith }
 
@@ -39,13 +12,13 @@ pub refresh-tokens-spec : {M : Type 1} → statement M
 refresh-tokens-spec =
     tie.close
     (tie.spec
-    number-requires
-    word-requires
-    number-requires-2
-    word-requires-2
-    number-requires-3
-    word-requires-3
-    word-requires-4
-    word-requires-5
-    word-requires-6
+    (λ c κs. search needs)
+    (λ c κs. search needs)
+    (λ c κs. search needs)
+    (λ c κs. search needs)
+    (λ c κs. search needs)
+    (λ c κs. search needs)
+    (λ c κs. search needs)
+    (λ c κs. search needs)
+    (λ c κs. search needs)
     returns)

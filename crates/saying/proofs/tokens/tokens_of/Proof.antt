@@ -3,171 +3,6 @@ use borrow.Author.Needs.{needs}
 use Rattle.saying.proofs.tokens.tokens_of.Statement.{statement}
 use Rattle.saying.proofs.tokens.tokens_of.Tie as tie
 
-enum-known-s : tie.Need-enum-known-s
-enum-known-s c = search needs
-
-cast-tick-tokens : tie.Need-cast-tick-tokens
-cast-tick-tokens c = search needs
-
-cast-tick-tokens-2 : tie.Need-cast-tick-tokens-2
-cast-tick-tokens-2 c = search needs
-
-tick-tokens-requires : tie.Need-tick-tokens-requires
-tick-tokens-requires c κs = search needs
-
-enum-known-s-2 : tie.Need-enum-known-s-2
-enum-known-s-2 c = search needs
-
-cast-begin-tokens : tie.Need-cast-begin-tokens
-cast-begin-tokens c = search needs
-
-cast-begin-tokens-2 : tie.Need-cast-begin-tokens-2
-cast-begin-tokens-2 c = search needs
-
-cast-begin-tokens-3 : tie.Need-cast-begin-tokens-3
-cast-begin-tokens-3 c = search needs
-
-cast-begin-tokens-4 : tie.Need-cast-begin-tokens-4
-cast-begin-tokens-4 c = search needs
-
-begin-tokens-requires : tie.Need-begin-tokens-requires
-begin-tokens-requires c κs = search needs
-
-enum-known-s-3 : tie.Need-enum-known-s-3
-enum-known-s-3 c = search needs
-
-invoke-tokens-requires : tie.Need-invoke-tokens-requires
-invoke-tokens-requires c κs = search needs
-
-enum-known-s-4 : tie.Need-enum-known-s-4
-enum-known-s-4 c = search needs
-
-cast-refresh-tokens : tie.Need-cast-refresh-tokens
-cast-refresh-tokens c = search needs
-
-cast-refresh-tokens-2 : tie.Need-cast-refresh-tokens-2
-cast-refresh-tokens-2 c = search needs
-
-cast-refresh-tokens-3 : tie.Need-cast-refresh-tokens-3
-cast-refresh-tokens-3 c = search needs
-
-refresh-tokens-requires : tie.Need-refresh-tokens-requires
-refresh-tokens-requires c κs = search needs
-
-enum-known-s-5 : tie.Need-enum-known-s-5
-enum-known-s-5 c = search needs
-
-cast-with-one : tie.Need-cast-with-one
-cast-with-one c = search needs
-
-with-one-requires : tie.Need-with-one-requires
-with-one-requires c κs = search needs
-
-enum-known-s-6 : tie.Need-enum-known-s-6
-enum-known-s-6 c = search needs
-
-cast-with-one-2 : tie.Need-cast-with-one-2
-cast-with-one-2 c = search needs
-
-with-one-requires-2 : tie.Need-with-one-requires-2
-with-one-requires-2 c κs = search needs
-
-enum-known-s-7 : tie.Need-enum-known-s-7
-enum-known-s-7 c = search needs
-
-cast-with-site : tie.Need-cast-with-site
-cast-with-site c = search needs
-
-cast-with-site-2 : tie.Need-cast-with-site-2
-cast-with-site-2 c = search needs
-
-with-site-requires : tie.Need-with-site-requires
-with-site-requires c κs = search needs
-
-enum-known-s-8 : tie.Need-enum-known-s-8
-enum-known-s-8 c = search needs
-
-cast-with-one-3 : tie.Need-cast-with-one-3
-cast-with-one-3 c = search needs
-
-with-one-requires-3 : tie.Need-with-one-requires-3
-with-one-requires-3 c κs = search needs
-
-enum-known-s-9 : tie.Need-enum-known-s-9
-enum-known-s-9 c = search needs
-
-cast-with-site-3 : tie.Need-cast-with-site-3
-cast-with-site-3 c = search needs
-
-cast-with-site-4 : tie.Need-cast-with-site-4
-cast-with-site-4 c = search needs
-
-with-site-requires-2 : tie.Need-with-site-requires-2
-with-site-requires-2 c κs = search needs
-
-enum-known-s-10 : tie.Need-enum-known-s-10
-enum-known-s-10 c = search needs
-
-cast-with-one-4 : tie.Need-cast-with-one-4
-cast-with-one-4 c = search needs
-
-with-one-requires-4 : tie.Need-with-one-requires-4
-with-one-requires-4 c κs = search needs
-
-enum-known-s-11 : tie.Need-enum-known-s-11
-enum-known-s-11 c = search needs
-
-cast-with-one-5 : tie.Need-cast-with-one-5
-cast-with-one-5 c = search needs
-
-with-one-requires-5 : tie.Need-with-one-requires-5
-with-one-requires-5 c κs = search needs
-
-enum-known-s-12 : tie.Need-enum-known-s-12
-enum-known-s-12 c = search needs
-
-cast-with-one-6 : tie.Need-cast-with-one-6
-cast-with-one-6 c = search needs
-
-with-one-requires-6 : tie.Need-with-one-requires-6
-with-one-requires-6 c κs = search needs
-
-enum-known-s-13 : tie.Need-enum-known-s-13
-enum-known-s-13 c = search needs
-
-cast-with-one-7 : tie.Need-cast-with-one-7
-cast-with-one-7 c = search needs
-
-with-one-requires-7 : tie.Need-with-one-requires-7
-with-one-requires-7 c κs = search needs
-
-enum-known-s-14 : tie.Need-enum-known-s-14
-enum-known-s-14 c = search needs
-
-cast-with-one-8 : tie.Need-cast-with-one-8
-cast-with-one-8 c = search needs
-
-with-one-requires-8 : tie.Need-with-one-requires-8
-with-one-requires-8 c κs = search needs
-
-enum-known-s-15 : tie.Need-enum-known-s-15
-enum-known-s-15 c = search needs
-
-cast-with-one-9 : tie.Need-cast-with-one-9
-cast-with-one-9 c = search needs
-
-with-one-requires-9 : tie.Need-with-one-requires-9
-with-one-requires-9 c κs = search needs
-
-enum-known-s-16 : tie.Need-enum-known-s-16
-enum-known-s-16 c = search needs
-
-cast-with-one-10 : tie.Need-cast-with-one-10
-cast-with-one-10 c = search needs
-
-with-one-requires-10 : tie.Need-with-one-requires-10
-with-one-requires-10 c κs = search needs
-
 returns : tie.Need-returns
 returns c = rw (c .before .before .s .given .1) (c .tick-tokens .ensures)
 
@@ -220,61 +55,61 @@ pub tokens-of-spec : {M : Type 1} → statement M
 tokens-of-spec =
     tie.close
     (tie.spec
-    enum-known-s
-    cast-tick-tokens
-    cast-tick-tokens-2
-    tick-tokens-requires
-    enum-known-s-2
-    cast-begin-tokens
-    cast-begin-tokens-2
-    cast-begin-tokens-3
-    cast-begin-tokens-4
-    begin-tokens-requires
-    enum-known-s-3
-    invoke-tokens-requires
-    enum-known-s-4
-    cast-refresh-tokens
-    cast-refresh-tokens-2
-    cast-refresh-tokens-3
-    refresh-tokens-requires
-    enum-known-s-5
-    cast-with-one
-    with-one-requires
-    enum-known-s-6
-    cast-with-one-2
-    with-one-requires-2
-    enum-known-s-7
-    cast-with-site
-    cast-with-site-2
-    with-site-requires
-    enum-known-s-8
-    cast-with-one-3
-    with-one-requires-3
-    enum-known-s-9
-    cast-with-site-3
-    cast-with-site-4
-    with-site-requires-2
-    enum-known-s-10
-    cast-with-one-4
-    with-one-requires-4
-    enum-known-s-11
-    cast-with-one-5
-    with-one-requires-5
-    enum-known-s-12
-    cast-with-one-6
-    with-one-requires-6
-    enum-known-s-13
-    cast-with-one-7
-    with-one-requires-7
-    enum-known-s-14
-    cast-with-one-8
-    with-one-requires-8
-    enum-known-s-15
-    cast-with-one-9
-    with-one-requires-9
-    enum-known-s-16
-    cast-with-one-10
-    with-one-requires-10
+    (λ c. search needs)
+    (λ c. search needs)
+    (λ c. search needs)
+    (λ c κs. search needs)
+    (λ c. search needs)
+    (λ c. search needs)
+    (λ c. search needs)
+    (λ c. search needs)
+    (λ c. search needs)
+    (λ c κs. search needs)
+    (λ c. search needs)
+    (λ c κs. search needs)
+    (λ c. search needs)
+    (λ c. search needs)
+    (λ c. search needs)
+    (λ c. search needs)
+    (λ c κs. search needs)
+    (λ c. search needs)
+    (λ c. search needs)
+    (λ c κs. search needs)
+    (λ c. search needs)
+    (λ c. search needs)
+    (λ c κs. search needs)
+    (λ c. search needs)
+    (λ c. search needs)
+    (λ c. search needs)
+    (λ c κs. search needs)
+    (λ c. search needs)
+    (λ c. search needs)
+    (λ c κs. search needs)
+    (λ c. search needs)
+    (λ c. search needs)
+    (λ c. search needs)
+    (λ c κs. search needs)
+    (λ c. search needs)
+    (λ c. search needs)
+    (λ c κs. search needs)
+    (λ c. search needs)
+    (λ c. search needs)
+    (λ c κs. search needs)
+    (λ c. search needs)
+    (λ c. search needs)
+    (λ c κs. search needs)
+    (λ c. search needs)
+    (λ c. search needs)
+    (λ c κs. search needs)
+    (λ c. search needs)
+    (λ c. search needs)
+    (λ c κs. search needs)
+    (λ c. search needs)
+    (λ c. search needs)
+    (λ c κs. search needs)
+    (λ c. search needs)
+    (λ c. search needs)
+    (λ c κs. search needs)
     returns
     returns-2
     returns-3

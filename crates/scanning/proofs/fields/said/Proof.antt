@@ -4,9 +4,6 @@ use borrow.Author.Needs.{needs}
 use Rattle.scanning.proofs.fields.said.Statement.{statement}
 use Rattle.scanning.proofs.fields.said.Tie as tie
 
-array-write-next : tie.Need-array-write-next
-array-write-next c = search needs
-
 returns : tie.Need-returns
 returns c = rw (lt-ltb (c .before .args .field) 16 (c .if1 .taken))
 
@@ -14,4 +11,4 @@ returns-2 : tie.Need-returns-2
 returns-2 c = rw (le-ltb (c .before .args .field) 16 (c .if1 .left))
 
 pub said-spec : {M : Type 1} → statement M
-said-spec = tie.close (tie.spec array-write-next returns returns-2)
+said-spec = tie.close (tie.spec (λ c. search needs) returns returns-2)

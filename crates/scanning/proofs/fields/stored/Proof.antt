@@ -5,23 +5,14 @@ use borrow.Author.Needs.{needs}
 use Rattle.scanning.proofs.fields.stored.Statement.{statement}
 use Rattle.scanning.proofs.fields.stored.Tie as tie
 
-cast-field : tie.Need-cast-field
-cast-field c = search needs
-
 put-one-requires : tie.Need-put-one-requires
 put-one-requires c κs = (omega arith, rw (c .if1 .taken) at (c .before .before .before .pre .1))
 
 returns : tie.Need-returns
 returns c = rw (c .put-one .ensures, c .before .if1 .taken)
 
-put-two-requires : tie.Need-put-two-requires
-put-two-requires c κs = search needs
-
 returns-2 : tie.Need-returns-2
 returns-2 c = rw (c .put-two .ensures, c .before .if2 .taken)
-
-put-four-requires : tie.Need-put-four-requires
-put-four-requires c κs = search needs
 
 returns-3 : tie.Need-returns-3
 returns-3 c = rw (c .put-four .ensures, ne-eqb (c .before .before .before .before .before .before .args .slot .width) 1 (c .before .before .before .if1 .left), ne-eqb (c .before .before .before .before .before .before .args .slot .width) 2 (c .before .if2 .left))
@@ -30,10 +21,10 @@ pub stored-spec : {M : Type 1} → statement M
 stored-spec =
     tie.close
     (tie.spec
-    cast-field
+    (λ c. search needs)
     put-one-requires
     returns
-    put-two-requires
+    (λ c κs. search needs)
     returns-2
-    put-four-requires
+    (λ c κs. search needs)
     returns-3)

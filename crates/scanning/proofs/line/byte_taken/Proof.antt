@@ -3,30 +3,6 @@ use borrow.Author.Needs.{needs}
 use Rattle.scanning.proofs.line.byte_taken.Statement.{statement}
 use Rattle.scanning.proofs.line.byte_taken.Tie as tie
 
-enum-told : tie.Need-enum-told
-enum-told c = search needs
-
-in-gap-requires : tie.Need-in-gap-requires
-in-gap-requires c κs = search needs
-
-enum-told-2 : tie.Need-enum-told-2
-enum-told-2 c = search needs
-
-in-word-requires : tie.Need-in-word-requires
-in-word-requires c κs = search needs
-
-enum-told-3 : tie.Need-enum-told-3
-enum-told-3 c = search needs
-
-in-number-requires : tie.Need-in-number-requires
-in-number-requires c κs = search needs
-
-enum-told-4 : tie.Need-enum-told-4
-enum-told-4 c = search needs
-
-enum-told-5 : tie.Need-enum-told-5
-enum-told-5 c = search needs
-
 returns : tie.Need-returns
 returns c = rw (c .in-gap .ensures, c .before .enum-told .given .1)
 
@@ -46,14 +22,14 @@ pub byte-taken-spec : {M : Type 1} → statement M
 byte-taken-spec =
     tie.close
     (tie.spec
-    enum-told
-    in-gap-requires
-    enum-told-2
-    in-word-requires
-    enum-told-3
-    in-number-requires
-    enum-told-4
-    enum-told-5
+    (λ c. search needs)
+    (λ c κs. search needs)
+    (λ c. search needs)
+    (λ c κs. search needs)
+    (λ c. search needs)
+    (λ c κs. search needs)
+    (λ c. search needs)
+    (λ c. search needs)
     returns
     returns-2
     returns-3

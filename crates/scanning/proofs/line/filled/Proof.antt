@@ -5,20 +5,11 @@ use borrow.Author.Needs.{needs}
 use Rattle.scanning.proofs.line.filled.Statement.{statement}
 use Rattle.scanning.proofs.line.filled.Tie as tie
 
-most-in-requires : tie.Need-most-in-requires
-most-in-requires c κs = search needs
-
-wrong-requires : tie.Need-wrong-requires
-wrong-requires c κs = search needs
-
 returns : tie.Need-returns
 returns c = rw (c .wrong .ensures, lt-ltb (mostIn (c .before .before .before .before .args .f .width)) (c .before .before .before .before .args .s .token) (rw (c .before .before .before .most-in .ensures) at (c .before .if1 .taken)))
 
 stored-requires : tie.Need-stored-requires
 stored-requires c κs = (c .before .before .before .before .pre, rw (c .before .before .before .most-in .ensures) at (c .before .if1 .left))
-
-made-requires : tie.Need-made-requires
-made-requires c κs = search needs
 
 returns-2 : tie.Need-returns-2
 returns-2 c = rw (c .made .ensures, c .before .stored .ensures, le-ltb (mostIn (c .before .before .before .before .before .before .args .f .width)) (c .before .before .before .before .before .before .args .s .token) (rw (c .before .before .before .before .before .most-in .ensures) at (c .before .before .before .if1 .left)))
@@ -26,4 +17,4 @@ returns-2 c = rw (c .made .ensures, c .before .stored .ensures, le-ltb (mostIn (
 pub filled-spec : {M : Type 1} → statement M
 filled-spec =
     tie.close
-    (tie.spec most-in-requires wrong-requires returns stored-requires made-requires returns-2)
+    (tie.spec (λ c κs. search needs) (λ c κs. search needs) returns stored-requires (λ c κs. search needs) returns-2)

@@ -3,14 +3,8 @@ use borrow.Author.Needs.{needs}
 use Rattle.scanning.proofs.line.followed.Statement.{statement}
 use Rattle.scanning.proofs.line.followed.Tie as tie
 
-said-requires : tie.Need-said-requires
-said-requires c κs = search needs
-
-made-requires : tie.Need-made-requires
-made-requires c κs = search needs
-
 returns : tie.Need-returns
 returns c = rw (c .made .ensures, c .before .said .ensures)
 
 pub followed-spec : {M : Type 1} → statement M
-followed-spec = tie.close (tie.spec said-requires made-requires returns)
+followed-spec = tie.close (tie.spec (λ c κs. search needs) (λ c κs. search needs) returns)

@@ -4,23 +4,11 @@ use borrow.Author.Needs.{needs}
 use Rattle.scanning.proofs.line.hex_next.Statement.{statement}
 use Rattle.scanning.proofs.line.hex_next.Tie as tie
 
-hex-value-requires : tie.Need-hex-value-requires
-hex-value-requires c κs = search needs
-
-hex-taken-requires : tie.Need-hex-taken-requires
-hex-taken-requires c κs = search needs
-
 returns : tie.Need-returns
 returns c = rw (c .hex-taken .ensures, lt-ltb (c .before .before .before .before .before .args .s .digits) 32 (c .before .if2 .taken), ← c .before .before .before .before .hex-value .ensures, lt-ltb (c .before .before .before .before .hex-value .result) 16 (c .before .before .before .if1 .taken))
 
-wrong-requires : tie.Need-wrong-requires
-wrong-requires c κs = search needs
-
 returns-2 : tie.Need-returns-2
 returns-2 c = rw (c .wrong .ensures, le-ltb (c .before .before .before .before .before .args .s .digits) 32 (c .before .if2 .left), ← c .before .before .before .before .hex-value .ensures, lt-ltb (c .before .before .before .before .hex-value .result) 16 (c .before .before .before .if1 .taken))
-
-wrong-requires-2 : tie.Need-wrong-requires-2
-wrong-requires-2 c κs = search needs
 
 returns-3 : tie.Need-returns-3
 returns-3 c = rw (c .wrong2 .ensures, ← c .before .before .hex-value .ensures, le-ltb (c .before .before .hex-value .result) 16 (c .before .if1 .left))
@@ -29,10 +17,10 @@ pub hex-next-spec : {M : Type 1} → statement M
 hex-next-spec =
     tie.close
     (tie.spec
-    hex-value-requires
-    hex-taken-requires
+    (λ c κs. search needs)
+    (λ c κs. search needs)
     returns
-    wrong-requires
+    (λ c κs. search needs)
     returns-2
-    wrong-requires-2
+    (λ c κs. search needs)
     returns-3)

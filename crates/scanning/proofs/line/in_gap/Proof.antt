@@ -4,17 +4,11 @@ use borrow.Author.Needs.{needs}
 use Rattle.scanning.proofs.line.in_gap.Statement.{statement}
 use Rattle.scanning.proofs.line.in_gap.Tie as tie
 
-hex-next-requires : tie.Need-hex-next-requires
-hex-next-requires c κs = search needs
-
 returns : tie.Need-returns
 returns c = rw (c .hex-next .ensures, c .before .if1 .taken)
-
-begun-requires : tie.Need-begun-requires
-begun-requires c κs = search needs
 
 returns-2 : tie.Need-returns-2
 returns-2 c = rw (c .begun .ensures, ne-eqb (c .before .before .before .args .s .node) 30 (c .before .if1 .left))
 
 pub in-gap-spec : {M : Type 1} → statement M
-in-gap-spec = tie.close (tie.spec hex-next-requires returns begun-requires returns-2)
+in-gap-spec = tie.close (tie.spec (λ c κs. search needs) returns (λ c κs. search needs) returns-2)

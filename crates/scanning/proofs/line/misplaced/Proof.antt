@@ -3,21 +3,12 @@ use borrow.Author.Needs.{needs}
 use Rattle.scanning.proofs.line.misplaced.Statement.{statement}
 use Rattle.scanning.proofs.line.misplaced.Tie as tie
 
-may-end-requires : tie.Need-may-end-requires
-may-end-requires c κs = search needs
-
-wrong-requires : tie.Need-wrong-requires
-wrong-requires c κs = search needs
-
 returns : tie.Need-returns
 returns c = rw (c .wrong .ensures, ← c .before .before .may-end .ensures, c .before .if1 .taken)
-
-wrong-requires-2 : tie.Need-wrong-requires-2
-wrong-requires-2 c κs = search needs
 
 returns-2 : tie.Need-returns-2
 returns-2 c = rw (c .wrong2 .ensures, ← c .before .before .may-end .ensures, c .before .if1 .left)
 
 pub misplaced-spec : {M : Type 1} → statement M
 misplaced-spec =
-    tie.close (tie.spec may-end-requires wrong-requires returns wrong-requires-2 returns-2)
+    tie.close (tie.spec (λ c κs. search needs) (λ c κs. search needs) returns (λ c κs. search needs) returns-2)

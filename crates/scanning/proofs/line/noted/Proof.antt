@@ -3,24 +3,6 @@ use borrow.Author.Needs.{needs}
 use Rattle.scanning.proofs.line.noted.Statement.{statement}
 use Rattle.scanning.proofs.line.noted.Tie as tie
 
-enum-told : tie.Need-enum-told
-enum-told c = search needs
-
-made-requires : tie.Need-made-requires
-made-requires c κs = search needs
-
-enum-told-2 : tie.Need-enum-told-2
-enum-told-2 c = search needs
-
-enum-told-3 : tie.Need-enum-told-3
-enum-told-3 c = search needs
-
-enum-told-4 : tie.Need-enum-told-4
-enum-told-4 c = search needs
-
-enum-told-5 : tie.Need-enum-told-5
-enum-told-5 c = search needs
-
 returns : tie.Need-returns
 returns c = rw (c .made .ensures, c .before .enum-told .given .1)
 
@@ -40,12 +22,12 @@ pub noted-spec : {M : Type 1} → statement M
 noted-spec =
     tie.close
     (tie.spec
-    enum-told
-    made-requires
-    enum-told-2
-    enum-told-3
-    enum-told-4
-    enum-told-5
+    (λ c. search needs)
+    (λ c κs. search needs)
+    (λ c. search needs)
+    (λ c. search needs)
+    (λ c. search needs)
+    (λ c. search needs)
     returns
     returns-2
     returns-3

@@ -5,12 +5,6 @@ use Rattle.words.specs.Scan.{numberTaken}
 use Rattle.scanning.proofs.line.number_taken.Statement.{statement}
 use Rattle.scanning.proofs.line.number_taken.Tie as tie
 
-slot-at-requires : tie.Need-slot-at-requires
-slot-at-requires c κs = search needs
-
-misplaced-requires : tie.Need-misplaced-requires
-misplaced-requires c κs = search needs
-
 returns : tie.Need-returns
 unfolding numberTaken
 returns c = rw (c .misplaced .ensures, ← c .before .before .before .slot-at .ensures .0, c .before .if1 .taken)
@@ -24,4 +18,4 @@ returns-2 c = rw (c .filled .ensures, ← c .before .before .before .slot-at .en
 
 pub number-taken-spec : {M : Type 1} → statement M
 number-taken-spec =
-    tie.close (tie.spec slot-at-requires misplaced-requires returns filled-requires returns-2)
+    tie.close (tie.spec (λ c κs. search needs) (λ c κs. search needs) returns filled-requires returns-2)

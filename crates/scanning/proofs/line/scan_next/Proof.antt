@@ -4,30 +4,6 @@ use borrow.Author.Needs.{needs}
 use Rattle.scanning.proofs.line.scan_next.Statement.{statement}
 use Rattle.scanning.proofs.line.scan_next.Tie as tie
 
-enum-told : tie.Need-enum-told
-enum-told c = search needs
-
-live-next-requires : tie.Need-live-next-requires
-live-next-requires c κs = search needs
-
-enum-told-2 : tie.Need-enum-told-2
-enum-told-2 c = search needs
-
-live-next-requires-2 : tie.Need-live-next-requires-2
-live-next-requires-2 c κs = search needs
-
-enum-told-3 : tie.Need-enum-told-3
-enum-told-3 c = search needs
-
-live-next-requires-3 : tie.Need-live-next-requires-3
-live-next-requires-3 c κs = search needs
-
-enum-told-4 : tie.Need-enum-told-4
-enum-told-4 c = search needs
-
-enum-told-5 : tie.Need-enum-told-5
-enum-told-5 c = search needs
-
 returns : tie.Need-returns
 unfolding scanNext
 returns c = rw (c .live-next .ensures, c .before .enum-told .given .1)
@@ -52,14 +28,14 @@ pub scan-next-spec : {M : Type 1} → statement M
 scan-next-spec =
     tie.close
     (tie.spec
-    enum-told
-    live-next-requires
-    enum-told-2
-    live-next-requires-2
-    enum-told-3
-    live-next-requires-3
-    enum-told-4
-    enum-told-5
+    (λ c. search needs)
+    (λ c κs. search needs)
+    (λ c. search needs)
+    (λ c κs. search needs)
+    (λ c. search needs)
+    (λ c κs. search needs)
+    (λ c. search needs)
+    (λ c. search needs)
     returns
     returns-2
     returns-3

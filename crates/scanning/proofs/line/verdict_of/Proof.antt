@@ -3,33 +3,6 @@ use borrow.Author.Needs.{needs}
 use Rattle.scanning.proofs.line.verdict_of.Statement.{statement}
 use Rattle.scanning.proofs.line.verdict_of.Tie as tie
 
-enum-told : tie.Need-enum-told
-enum-told c = search needs
-
-ends-at-requires : tie.Need-ends-at-requires
-ends-at-requires c κs = search needs
-
-enum-told-2 : tie.Need-enum-told-2
-enum-told-2 c = search needs
-
-ends-at-requires-2 : tie.Need-ends-at-requires-2
-ends-at-requires-2 c κs = search needs
-
-enum-told-3 : tie.Need-enum-told-3
-enum-told-3 c = search needs
-
-ends-at-requires-3 : tie.Need-ends-at-requires-3
-ends-at-requires-3 c κs = search needs
-
-enum-told-4 : tie.Need-enum-told-4
-enum-told-4 c = search needs
-
-ends-at-requires-4 : tie.Need-ends-at-requires-4
-ends-at-requires-4 c κs = search needs
-
-enum-known-mode : tie.Need-enum-known-mode
-enum-known-mode c = search needs
-
 returns : tie.Need-returns
 returns c = rw (c .ends-at .ensures, c .before .enum-told .given .1)
 
@@ -49,15 +22,15 @@ pub verdict-of-spec : {M : Type 1} → statement M
 verdict-of-spec =
     tie.close
     (tie.spec
-    enum-told
-    ends-at-requires
-    enum-told-2
-    ends-at-requires-2
-    enum-told-3
-    ends-at-requires-3
-    enum-told-4
-    ends-at-requires-4
-    enum-known-mode
+    (λ c. search needs)
+    (λ c κs. search needs)
+    (λ c. search needs)
+    (λ c κs. search needs)
+    (λ c. search needs)
+    (λ c κs. search needs)
+    (λ c. search needs)
+    (λ c κs. search needs)
+    (λ c. search needs)
     returns
     returns-2
     returns-3

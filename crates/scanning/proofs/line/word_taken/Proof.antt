@@ -5,21 +5,9 @@ use Rattle.words.specs.Scan.{wordTaken}
 use Rattle.scanning.proofs.line.word_taken.Statement.{statement}
 use Rattle.scanning.proofs.line.word_taken.Tie as tie
 
-edge-at-requires : tie.Need-edge-at-requires
-edge-at-requires c κs = search needs
-
-edge-of-requires : tie.Need-edge-of-requires
-edge-of-requires c κs = search needs
-
-followed-requires : tie.Need-followed-requires
-followed-requires c κs = search needs
-
 returns : tie.Need-returns
 unfolding wordTaken
 returns c = rw (c .followed .ensures, c .before .edge-of .ensures, ← c .before .before .before .edge-at .ensures .0, lt-ltb (c .before .before .before .edge-at .result) 31 (c .before .before .if1 .taken))
-
-misplaced-requires : tie.Need-misplaced-requires
-misplaced-requires c κs = search needs
 
 returns-2 : tie.Need-returns-2
 unfolding wordTaken
@@ -29,9 +17,9 @@ pub word-taken-spec : {M : Type 1} → statement M
 word-taken-spec =
     tie.close
     (tie.spec
-    edge-at-requires
-    edge-of-requires
-    followed-requires
+    (λ c κs. search needs)
+    (λ c κs. search needs)
+    (λ c κs. search needs)
     returns
-    misplaced-requires
+    (λ c κs. search needs)
     returns-2)

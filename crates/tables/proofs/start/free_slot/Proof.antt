@@ -3,11 +3,8 @@ use borrow.Author.Needs.{needs}
 use Rattle.tables.proofs.start.free_slot.Statement.{statement}
 use Rattle.tables.proofs.start.free_slot.Tie as tie
 
-no-round-requires : tie.Need-no-round-requires
-no-round-requires c κs = search needs
-
 returns : tie.Need-returns
 returns c = rw (c .no-round .ensures)
 
 pub free-slot-spec : {M : Type 1} → statement M
-free-slot-spec = tie.close (tie.spec no-round-requires returns)
+free-slot-spec = tie.close (tie.spec (λ c κs. search needs) returns)

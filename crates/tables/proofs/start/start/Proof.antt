@@ -4,18 +4,6 @@ use Rattle.rules.specs.Tables.{start}
 use Rattle.tables.proofs.start.start.Statement.{statement}
 use Rattle.tables.proofs.start.start.Tie as tie
 
-unheld-requires : tie.Need-unheld-requires
-unheld-requires c κs = search needs
-
-free-slot-requires : tie.Need-free-slot-requires
-free-slot-requires c κs = search needs
-
-no-visit-requires : tie.Need-no-visit-requires
-no-visit-requires c κs = search needs
-
-no-message-requires : tie.Need-no-message-requires
-no-message-requires c κs = search needs
-
 returns : tie.Need-returns
 unfolding start
 returns c = rw (c .no-message .ensures, c .before .no-visit .ensures, c .before .before .free-slot .ensures, c .before .before .before .unheld .ensures)
@@ -23,4 +11,4 @@ returns c = rw (c .no-message .ensures, c .before .no-visit .ensures, c .before 
 pub start-spec : {M : Type 1} → statement M
 start-spec =
     tie.close
-    (tie.spec unheld-requires free-slot-requires no-visit-requires no-message-requires returns)
+    (tie.spec (λ c κs. search needs) (λ c κs. search needs) (λ c κs. search needs) (λ c κs. search needs) returns)
