@@ -4,33 +4,93 @@ use mathlib.Core.Path.{_≡_, refl, sym, ap, _∙_}
 use mathlib.Core.Logic.{⊎-elim}
 use mathlib.Core.Bool.{Bool, true, false, cond, true≢false, false≢true}
 use mathlib.Core.List.{List, [], _∷_}
-use Rattle.rules.specs.Types.{Answer, Check, Seen, Decision}
-use Rattle.rules.specs.Answers.{isAccepted, firstOf, settleOf}
+use lib.Dec.{eqb}
+use Rattle.rules.specs.Types.{Refusal, Answer, Check, Seen, Decision}
+use Rattle.rules.specs.Answers.{refusalNumber, isAccepted, firstOf, settleOf}
 use Rattle.rules.specs.LoopsLaws.{either}
 
--- no check of the list holds
-abbrev pub Fine : List Check → Type 0
-Fine [] = Unit {0}
-Fine (c ∷ cs) = (c .holds ≡ false) × Fine cs
+-- no check of the list holds, check by check
+abbrev pub Clear : List Check → Type 0
+Clear [] = Unit {0}
+Clear (c ∷ cs) = (c .holds ≡ false) × Clear cs
+
+-- the condition under which a list of checks gives this refusal; a list has at most one check for each
+abbrev pub holdsOf : Refusal → List Check → Bool
+holdsOf r [] = false
+holdsOf r (c ∷ cs) = cond (eqb (refusalNumber (c .gives)) (refusalNumber r)) (c .holds) (holdsOf r cs)
+
+-- what an accepted step has passed, by name and not by place: a check put between two others leaves every name as it is.
+-- A field says that its check did not hold, and not what the check asks: that stays with the definition.
+pub record Fine (cs : List Check) : Type 0 where
+  -- 2
+  pub fields : holdsOf Refusal.BadField cs ≡ false
+  -- 3
+  pub found : holdsOf Refusal.NotThere cs ≡ false
+  -- 4
+  pub up : holdsOf Refusal.SiteDown cs ≡ false
+  -- 5
+  pub state : holdsOf Refusal.WrongState cs ≡ false
+  -- 6
+  pub there : holdsOf Refusal.NoVisit cs ≡ false
+  -- 7
+  pub clock : holdsOf Refusal.ClockFull cs ≡ false
+  -- 8
+  pub early : holdsOf Refusal.Quiesced cs ≡ false
+  -- 9
+  pub round : holdsOf Refusal.WrongRound cs ≡ false
+  -- 10
+  pub unheld : holdsOf Refusal.Held cs ≡ false
+  -- 11
+  pub room : holdsOf Refusal.Full cs ≡ false
+  -- 12
+  pub closed : holdsOf Refusal.NotClosed cs ≡ false
+
+either-false : (t x y : Bool) → x ≡ false → y ≡ false → cond t x y ≡ false
+either-false true x y e f = e
+either-false false x y e f = f
+
+passed : (r : Refusal) (cs : List Check) → Clear cs → holdsOf r cs ≡ false
+passed r [] f = refl
+passed r (c ∷ cs) f =
+    either-false (eqb (refusalNumber (c .gives)) (refusalNumber r)) (c .holds) _ (f .0) (passed r cs (f .1))
+
+clear-fine : (cs : List Check) → Clear cs → Fine cs
+clear-fine cs f =
+    record {
+      fields = passed Refusal.BadField cs f;
+      found = passed Refusal.NotThere cs f;
+      up = passed Refusal.SiteDown cs f;
+      state = passed Refusal.WrongState cs f;
+      there = passed Refusal.NoVisit cs f;
+      clock = passed Refusal.ClockFull cs f;
+      early = passed Refusal.Quiesced cs f;
+      round = passed Refusal.WrongRound cs f;
+      unheld = passed Refusal.Held cs f;
+      room = passed Refusal.Full cs f;
+      closed = passed Refusal.NotClosed cs f;
+    }
 
 -- an accepted answer says that no check holds
-pub accepted-fine : (cs : List Check) (v : ℕ) → isAccepted (firstOf cs v) ≡ true → Fine cs
+accepted-clear : (cs : List Check) (v : ℕ) → isAccepted (firstOf cs v) ≡ true → Clear cs
 unfolding firstOf
-accepted-fine [] v e = tt
-accepted-fine (c ∷ cs) v e =
+accepted-clear [] v e = tt
+accepted-clear (c ∷ cs) v e =
     ⊎-elim
     (λ h. absurd (false≢true (rw h at e)))
-    (λ h. (h, accepted-fine cs v (rw h at e)))
+    (λ h. (h, accepted-clear cs v (rw h at e)))
     (either (c .holds))
 
+pub accepted-fine : (cs : List Check) (v : ℕ) → isAccepted (firstOf cs v) ≡ true → Fine cs
+accepted-fine cs v e = clear-fine cs (accepted-clear cs v e)
+
 -- and where none holds, the step is accepted with its value
-pub fine-accepted : (cs : List Check) (v : ℕ) → Fine cs → firstOf cs v ≡ Answer.Accepted v
+clear-accepted : (cs : List Check) (v : ℕ) → Clear cs → firstOf cs v ≡ Answer.Accepted v
 unfolding firstOf
-fine-accepted [] v f = refl
-fine-accepted (c ∷ cs) v f = rw (f .0) (fine-accepted cs v (f .1))
+clear-accepted [] v f = refl
+clear-accepted (c ∷ cs) v f = rw (f .0) (clear-accepted cs v (f .1))
 
 pub accepted-value : (cs : List Check) (v : ℕ) → isAccepted (firstOf cs v) ≡ true → firstOf cs v ≡ Answer.Accepted v
-accepted-value cs v e = fine-accepted cs v (accepted-fine cs v e)
+accepted-value cs v e = clear-accepted cs v (accepted-clear cs v e)
 
 -- a refused decision leaves what was seen, an accepted one what was decided
 pub settle-refused : (d : Decision) (seen : Seen) → isAccepted (d .answer) ≡ false → settleOf d seen .left ≡ seen

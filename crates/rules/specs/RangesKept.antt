@@ -2,21 +2,21 @@
 -- A law fits-after-STEP shows the records that an accepted step leaves in range, from the checks that it passed. Assumes nothing.
 use Prim.Native.Nat.{ℕ, zero, suc, _+_, _%_, _≤_, _<_}
 use native.Mathlib.Omega.{arith}
-use mathlib.Core.Path.{_≡_, refl}
+use mathlib.Core.Path.{_≡_, refl, sym, _∙_}
 use mathlib.Core.Logic.{⊎-elim}
 use mathlib.Core.Bool.{Bool, true, false, cond, not, _&&_, _||_}
 use mathlib.Core.List.{List, [], _∷_}
 use lib.Dec.{leb, ltb, eqb}
 use lib.ListN.{getD}
 use borrow.Author.Tests.{leb-true, le-leb, leb-false, ltb-false}
-use Rattle.rules.specs.Types.{Site, Kind, Phase, Call, Asked, Told, Body, Tables, Step, Reading, Answer, Check, Trip, Places, Seen, Outcome}
+use Rattle.rules.specs.Types.{Site, Kind, Phase, Call, Asked, Told, Body, Tables, Step, Reading, Refusal, Answer, Check, Trip, Places, Seen, Outcome}
 use Rattle.rules.specs.Limits.{clockMost, timeMost, widthMost, countMost}
 use Rattle.rules.specs.Loops.{everyUpTo}
 use Rattle.rules.specs.LoopsLaws.{or-right, not-false, either}
 use Rattle.rules.specs.Tables.{pastObject, start}
 use Rattle.rules.specs.Ranges.{countsInRange, kindInRange, phaseFits, roundInRange, askedInRange, toldInRange, bodyInRange, inRange}
 use Rattle.rules.specs.Answers.{isAccepted, firstOf, settleOf}
-use Rattle.rules.specs.AnswersLaws.{Fine, accepted-fine}
+use Rattle.rules.specs.AnswersLaws.{Fine, holdsOf, accepted-fine}
 use Rattle.rules.specs.Parts.{clockTo, nextClock, countSent, restored, eachOf, openedRound, askedOf, askedVisit}
 use Rattle.rules.specs.Checks.{badSite, badHandle, badTimes, clockFull, isFull}
 use Rattle.rules.specs.Stations.{leftSite, tickOf, sweepOf, sweptSlot, crashOf, crashedSlot, recoverOf}
@@ -43,18 +43,19 @@ module _ (seen : Seen) (b : SeenFits seen) where
       (λ e. rw e b)
       (either (isAccepted (firstOf cs v)))
 
-  -- the steps of a station move its clock, behind two checks of their own
+  -- the steps of a station move its clock, and try that it fits
   fits-after-clock :
-      (c d : Check) (v : ℕ) (s : Site)
-      → SeenFits
-      (settleOf (record { answer = firstOf (c ∷ d ∷ clockFull (s .clock) ∷ []) v; left = leftSite seen s }) seen .left)
-  fits-after-clock c d v s = settled-fits _ _ _ (λ f. search (arith, ltb-false))
+      (cs : List Check) (v : ℕ) (s : Site) → holdsOf Refusal.ClockFull cs ≡ ltb clockMost (s .clock)
+      → SeenFits (settleOf (record { answer = firstOf cs v; left = leftSite seen s }) seen .left)
+  fits-after-clock cs v s e =
+      settled-fits cs v _ λ f.
+      let g : ltb clockMost (s .clock) ≡ false = sym e ∙ f .clock in search (arith, ltb-false)
 
   fits-after-begin : (home slot q r : ℕ) → SeenFits (beginOf home slot q r seen .left)
   unfolding beginOf
   fits-after-begin home slot q r =
       settled-fits _ _ _ λ f.
-      neither {a = badSite home || ltb 15 slot} {b = badTimes q r} (f .0) λ e t.
+      neither {a = badSite home || ltb 15 slot} {b = badTimes q r} (f .fields) λ e t.
       neither {a = badSite home} {b = ltb 15 slot} e λ h _.
       let w : (q ≤ timeMost) × (r ≤ timeMost) = times-fit q r t in
       search (arith, ltb-false, no-round-fits, new-visit-fits)
@@ -76,8 +77,8 @@ module _ (seen : Seen) (b : SeenFits seen) where
   unfolding openOf
   fits-after-open h k bad wrong p kind =
       settled-fits _ _ _ λ f.
-      let n : seen .passage .round .number < countMost = leb-false _ _ (f .1 .1 .1 .1 .1 .1 .0) in
-      let g : kindInRange k ≡ true = kind (f .0) in
+      let n : seen .passage .round .number < countMost = leb-false _ _ (f .room) in
+      let g : kindInRange k ≡ true = kind (f .fields) in
       let v : VisitFits (openedVisit k (nextClock (seen .site)) seen) =
       asked-visit-fits (askedOf k) _ _ (seen .visit) (asked-in-range k g) (omega arith) (b .visit) in
       let r : RoundFits (openedRound (seen .passage .round) k) = search (arith, eight-figures-fit) in
@@ -103,14 +104,14 @@ module _ (seen : Seen) (b : SeenFits seen) where
   unfolding askOf
   fits-after-ask h site place =
       settled-fits _ _ _ λ f.
-      sent-out-fits _ h site (f .0) (f .1 .1 .1 .1 .0)
+      sent-out-fits _ h site (f .fields) (f .clock)
       (rw (le-leb _ _ (b .passage .round .number)) (asked-in-range (seen .passage .round .kind) (b .passage .round .kind)))
 
   fits-after-tell : (h site place : ℕ) → SeenFits (tellOf h site place seen .left)
   unfolding tellOf
   fits-after-tell h site place =
       settled-fits _ _ _ λ f.
-      sent-out-fits _ h site (f .0) (f .1 .1 .1 .1 .0)
+      sent-out-fits _ h site (f .fields) (f .clock)
       (rw (le-leb _ _ (b .passage .round .number)) (round-told-in-range (seen .passage .round) (b .passage .round)))
 
   fits-after-close : (h : ℕ) → SeenFits (closeOf h seen .left)
@@ -118,17 +119,17 @@ module _ (seen : Seen) (b : SeenFits seen) where
   fits-after-close h =
       settled-fits _ _ _ λ f.
       let p : phaseFits (seen .passage .round .kind) Phase.Two ≡ true =
-      phase-two-fits (seen .passage .round .kind) (seen .passage .round .phase) (b .passage .round .phase) (not-false _ (f .1 .1 .1 .0)) in
+      phase-two-fits (seen .passage .round .kind) (seen .passage .round .phase) (b .passage .round .phase) (not-false _ (f .state)) in
       search (arith, ltb-false, told-visit-fits, told-objects-fit, round-told-in-range, cond-keeps VisitFits, cond-keeps ObjectsFit)
 
   fits-after-invoke : (h site write object value place : ℕ) → SeenFits (invokeOf h site write object value place seen .left)
   unfolding invokeOf
   fits-after-invoke h site write object value place =
       settled-fits _ _ _ λ f.
-      let n : ltb clockMost (nextClock (seen .site)) ≡ false = f .1 .1 .1 .1 .0 in
+      let n : ltb clockMost (nextClock (seen .site)) ≡ false = f .clock in
       let k : getD (seen .visit .sent) (callSite object) 0 < countMost =
-      leb-false _ _ (or-right (isFull seen) _ (f .1 .1 .1 .1 .1 .1 .0)) in
-      neither {b = eqb write 0 && not (eqb value 0)} (f .0) λ e _.
+      leb-false _ _ (or-right (isFull seen) _ (f .room)) in
+      neither {b = eqb write 0 && not (eqb value 0)} (f .fields) λ e _.
       neither {b = ltb widthMost value} e λ e v.
       neither {b = ltb 31 object} e λ e o.
       neither {b = ltb 1 write} e λ e _.
@@ -149,7 +150,7 @@ module _ (seen : Seen) (b : SeenFits seen) where
       let visit : VisitFits (calledVisit c (seen .visit)) =
       search (arith, new-visit-fits, cond-keeps VisitFits) in
       settled-fits _ _ _ λ f.
-      let k : calledVisit c (seen .visit) .received < countMost = leb-false _ _ (f .1 .1 .1 .1 .1 .0) in
+      let k : calledVisit c (seen .visit) .received < countMost = leb-false _ _ (f .room) in
       let o : ObjectsFit (callDone m c seen .left .objects) =
       λ i.
       set-keeps-at ObjectFits (seen .objects) (c .object % 4) i _ pastObject (b .objects i)
@@ -190,7 +191,7 @@ module _ (seen : Seen) (b : SeenFits seen) where
 
   fits-after-decided : (step : Step) (place : ℕ) (rest : Bool) → SeenFits (decideOf step place rest seen .left)
   unfolding decideOf tickOf sweepOf crashOf recoverOf terminateOf prepareOf
-  fits-after-decided (Step.Tick site n) place rest = fits-after-clock _ _ _ (clockTo (seen .site) (seen .site .clock + n))
+  fits-after-decided (Step.Tick site n) place rest = fits-after-clock _ _ (clockTo (seen .site) (seen .site .clock + n)) refl
   fits-after-decided (Step.Begin home slot q r) place rest = fits-after-begin home slot q r
   fits-after-decided (Step.Invoke h site write object value) place rest = fits-after-invoke h site write object value place
   fits-after-decided (Step.Refresh h q r) place rest = fits-after-refresh h q r
@@ -202,9 +203,9 @@ module _ (seen : Seen) (b : SeenFits seen) where
   fits-after-decided (Step.Abort h) place rest = fits-after-abort h
   fits-after-decided (Step.Deliver m) place rest = fits-after-deliver (seen .message .body) m (b .message .body)
   fits-after-decided (Step.Drop m) place rest = fits-after-drop m
-  fits-after-decided (Step.Sweep site) place rest = fits-after-clock _ _ _ (clockTo (seen .site) (nextClock (seen .site)))
-  fits-after-decided (Step.Crash site) place rest = fits-after-clock _ _ _ (record { clock = nextClock (seen .site); up = false })
-  fits-after-decided (Step.Recover site) place rest = fits-after-clock _ _ _ (record { clock = nextClock (seen .site); up = true })
+  fits-after-decided (Step.Sweep site) place rest = fits-after-clock _ _ (clockTo (seen .site) (nextClock (seen .site))) refl
+  fits-after-decided (Step.Crash site) place rest = fits-after-clock _ _ (record { clock = nextClock (seen .site); up = false }) refl
+  fits-after-decided (Step.Recover site) place rest = fits-after-clock _ _ (record { clock = nextClock (seen .site); up = true }) refl
   fits-after-decided (Step.Retire h) place rest = fits-after-retire h rest
 
   fits-after-swept : (site slot : ℕ) → SeenFits (sweptSlot site slot seen)

@@ -48,7 +48,7 @@ tick-adds : (site n : ℕ) (seen : Seen) → isAccepted (tickOf site n seen .ans
 unfolding tickOf
 tick-adds site n seen =
     settled-adds _ _ seen _ λ f.
-    let d : n ≡ 0 → ⊥ = eqb-false n 0 (or-right (badSite site) _ (or-left (badSite site || eqb n 0) (ltb tickMost n) (f .0))) in
+    let d : n ≡ 0 → ⊥ = eqb-false n 0 (or-right (badSite site) _ (or-left (badSite site || eqb n 0) (ltb tickMost n) (f .fields))) in
     omega (arith, d)
 
 -- an empty slot is refused; any other message moves the clock
@@ -58,7 +58,7 @@ deliver-adds :
     → Grown seen (deliverBodyOf body m seen .left)
 unfolding deliverBodyOf emptyOf deliverCallOf deliverPhaseOneOf deliverPhaseTwoOf deliverAnswerOf
 deliver-adds Body.Empty m seen b e =
-    settled-adds _ _ seen seen (λ f. absurd (true≢false (rw b at (f .1 .0)))) e
+    settled-adds _ _ seen seen (λ f. absurd (true≢false (rw b at (f .found)))) e
 deliver-adds (Body.Call c) m seen b e = settled-adds _ _ seen _ (λ f. omega arith) e
 deliver-adds (Body.PhaseOne n a) m seen b e = settled-adds _ _ seen _ (λ f. omega arith) e
 deliver-adds (Body.PhaseTwo n d) m seen b e = settled-adds _ _ seen _ (λ f. omega arith) e

@@ -134,7 +134,7 @@ pub close-fits :
     (t : Tables) (h : ℕ) → inRange t ≡ true → Fine (closeChecks h (seenOf t (placesOf t (lookOf (Step.Close h)))))
     → Fitting t (placesOf t (lookOf (Step.Close h))) (closeDone h (seenOf t (placesOf t (lookOf (Step.Close h)))) .left)
 unfolding placesOf
-close-fits t h range (bad, (there, (down, (wrong, (full, (open′, rest)))))) =
+close-fits t h range fine =
     record {
       clock = omega arith;
       mail = inl refl;
@@ -155,9 +155,9 @@ close-fits t h range (bad, (there, (down, (wrong, (full, (open′, rest)))))) =
           y
           (omega arith)
           one
-          (not-false _ open′)
+          (not-false _ (fine .closed))
           (one-kind _ _ (phase-fits t (lookOf (Step.Close h)) range) one));
     }
   where
     one : passageAt t (h % 16) .round .phase ≡ Phase.One
-    one = one-says _ (not-false _ wrong)
+    one = one-says _ (not-false _ (fine .state))

@@ -90,7 +90,7 @@ module _ (t : Tables) (at : Places) (m : ℕ) (own : slotOf (messageAt t (at .me
             c
             (letter-body (Body.Call c) body refl)
             (letter-here (Body.Call c) body refl)
-            (leb-false _ _ (or-left _ (calledVisit c (visitAt t (at .site) (at .slot)) .dead) (fine .1 .1 .1 .0))));
+            (leb-false _ _ (or-left _ (calledVisit c (visitAt t (at .site) (at .slot)) .dead) (fine .early))));
       }
 
   pub phase-one-fits-at :
@@ -134,10 +134,10 @@ module _ (t : Tables) (at : Places) (m : ℕ) (own : slotOf (messageAt t (at .me
       reply source = answerMessage asks′ source (passageAt t (at .slot) .home) (letter .handle) clock
 
       there : visitAt t (at .site) (at .slot) .there ≡ true
-      there = not-false _ (fine .1 .1 .0)
+      there = not-false _ (fine .there)
 
       below : visitAt t (at .site) (at .slot) .round < n
-      below = leb-false _ _ (fine .1 .1 .1 .1 .1 .0)
+      below = leb-false _ _ (fine .round)
 
   pub phase-two-fits-at :
       (n : ℕ) (told : Told) → letter .body ≡ Body.PhaseTwo n told
@@ -163,10 +163,10 @@ module _ (t : Tables) (at : Places) (m : ℕ) (own : slotOf (messageAt t (at .me
       }
     where
       there : visitAt t (at .site) (at .slot) .there ≡ true
-      there = not-false _ (fine .1 .1 .0)
+      there = not-false _ (fine .there)
 
       round : n ≡ visitAt t (at .site) (at .slot) .round
-      round = eqb-true _ _ (not-false _ (fine .1 .1 .1 .1 .1 .0))
+      round = eqb-true _ _ (not-false _ (fine .round))
 
       at-here : at .site ≡ view .mail (at .message) .destination
       at-here = letter-here (Body.PhaseTwo n told) body refl
@@ -208,10 +208,10 @@ module _ (t : Tables) (at : Places) (m : ℕ) (own : slotOf (messageAt t (at .me
       }
     where
       free : isFree (passageAt t (at .slot) .status) ≡ false
-      free = or-left _ _ (or-left _ _ (fine .1 .1 .1 .0))
+      free = or-left _ _ (or-left _ _ (fine .round))
 
       one : isPhaseOne (passageAt t (at .slot) .round .phase) ≡ true
-      one = not-false _ (or-right (isFree (passageAt t (at .slot) .status)) _ (or-left _ _ (fine .1 .1 .1 .0)))
+      one = not-false _ (or-right (isFree (passageAt t (at .slot) .status)) _ (or-left _ _ (fine .round)))
 
       number : n ≡ passageAt t (at .slot) .round .number
       number =
@@ -223,7 +223,7 @@ module _ (t : Tables) (at : Places) (m : ℕ) (own : slotOf (messageAt t (at .me
           (or-right
           (isFree (passageAt t (at .slot) .status) || not (isPhaseOne (passageAt t (at .slot) .round .phase)))
           _
-          (fine .1 .1 .1 .0)))
+          (fine .round)))
 
 -- ---- 11. deliver
 
@@ -291,7 +291,7 @@ module _ (t : Tables) (m : ℕ) (range : inRange t ≡ true) where
       → isAccepted (deliverBodyOf b m (seenOf t (deliverAt t m)) .answer) ≡ true
       → Fitting t (deliverAt t m) (deliverBodyOf b m (seenOf t (deliverAt t m)) .left)
   unfolding deliverBodyOf emptyOf deliverCallOf deliverPhaseOneOf deliverPhaseTwoOf deliverAnswerOf
-  body-fits Body.Empty e y = absurd (true≢false (sym (ap isEmpty e) ∙ accepted-fine _ 0 y .1 .0))
+  body-fits Body.Empty e y = absurd (true≢false (sym (ap isEmpty e) ∙ accepted-fine _ 0 y .found))
   body-fits (Body.Call c) e y =
       settled-fits t (deliverAt t m) (callDone m c (seenOf t (deliverAt t m))) y (deliver-call-fits c e (accepted-fine _ _ y))
   body-fits (Body.PhaseOne n asked) e y =

@@ -295,20 +295,20 @@ module _ (t : Tables) (h : ℕ) (old : generationAt t (slotOf h) ≢ generationO
   unfolding placesOf decideOf abortOf retireOf refreshOf terminateOf prepareOf openOf askOf closeOf tellOf invokeOf
   decided-apart (Step.Tick site n) e a = false≢true e
   decided-apart (Step.Begin home slot q r) e a = false≢true e
-  decided-apart (Step.Invoke g site write object value) e a = told-apart g e (accepted-fine _ _ a .1 .0)
-  decided-apart (Step.Refresh g q r) e a = told-apart g e (accepted-fine _ _ a .1 .0)
-  decided-apart (Step.Terminate g) e a = told-apart g e (accepted-fine _ _ a .1 .0)
-  decided-apart (Step.Prepare g) e a = told-apart g e (accepted-fine _ _ a .1 .0)
-  decided-apart (Step.Ask g site) e a = told-apart g e (accepted-fine _ _ a .1 .0)
-  decided-apart (Step.Close g) e a = told-apart g e (accepted-fine _ _ a .1 .0)
-  decided-apart (Step.Tell g site) e a = told-apart g e (accepted-fine _ _ a .1 .0)
-  decided-apart (Step.Abort g) e a = told-apart g e (accepted-fine _ _ a .1 .0)
+  decided-apart (Step.Invoke g site write object value) e a = told-apart g e (accepted-fine _ _ a .found)
+  decided-apart (Step.Refresh g q r) e a = told-apart g e (accepted-fine _ _ a .found)
+  decided-apart (Step.Terminate g) e a = told-apart g e (accepted-fine _ _ a .found)
+  decided-apart (Step.Prepare g) e a = told-apart g e (accepted-fine _ _ a .found)
+  decided-apart (Step.Ask g site) e a = told-apart g e (accepted-fine _ _ a .found)
+  decided-apart (Step.Close g) e a = told-apart g e (accepted-fine _ _ a .found)
+  decided-apart (Step.Tell g site) e a = told-apart g e (accepted-fine _ _ a .found)
+  decided-apart (Step.Abort g) e a = told-apart g e (accepted-fine _ _ a .found)
   decided-apart (Step.Deliver m) e a = false≢true e
   decided-apart (Step.Drop m) e a = false≢true e
   decided-apart (Step.Sweep site) e a = false≢true e
   decided-apart (Step.Crash site) e a = false≢true e
   decided-apart (Step.Recover site) e a = false≢true e
-  decided-apart (Step.Retire g) e a = told-apart g e (accepted-fine _ _ a .1 .0)
+  decided-apart (Step.Retire g) e a = told-apart g e (accepted-fine _ _ a .found)
 
   head-apart : (step : Step) → names h step ≡ true → isAccepted (headOf t step .answer) ≡ true → ⊥
   unfolding headOf
@@ -366,7 +366,7 @@ begun-handle :
 unfolding headOf placesOf decideOf beginOf
 begun-handle t home slot q r a =
     let l : slot ≤ 15 =
-    ltb-false 15 slot (or-right (badSite home) _ (or-left (badSite home || ltb 15 slot) (badTimes q r) (accepted-fine _ _ a .0))) in
+    ltb-false 15 slot (or-right (badSite home) _ (or-left (badSite home || ltb 15 slot) (badTimes q r) (accepted-fine _ _ a .fields))) in
     (omega arith, ap answerValue (accepted-value _ _ a))
 
 in-range-begun :

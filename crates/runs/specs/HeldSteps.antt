@@ -198,7 +198,7 @@ module _ (t : Tables) (at : Places) (k : Held t) where
   unfolding invokeOf
   invoke-keeps h site write object value place =
       settled-keeps _ _ _ λ f.
-      let o : object ≤ 31 = ltb-false 31 object (object-says (f .0)) in
+      let o : object ≤ 31 = ltb-false 31 object (object-says (f .fields)) in
       stays _ refl (λ e. e) (λ c e. sent c (ap objectOf e) o)
     where
       object-says : badCall h site write object value ≡ false → ltb 31 object ≡ false
@@ -254,7 +254,7 @@ module _ (t : Tables) (at : Places) (k : Held t) where
   deliver-keeps Body.Empty m e s a b = settled-keeps _ _ _ (λ f. seen-stays)
   deliver-keeps (Body.Call c) m e s a b =
       let y : messageAt t (at .message) .destination ≡ objectSite (c .object) = k .calls (at .message) c e .0 in
-      settled-keeps _ _ _ (λ f. called-keeps c _ s (b ∙ ap (λ (x : ℕ). x % 8) (sym y) ∙ sym a) (f .1 .1 .1 .1 .0))
+      settled-keeps _ _ _ (λ f. called-keeps c _ s (b ∙ ap (λ (x : ℕ). x % 8) (sym y) ∙ sym a) (f .unheld))
   deliver-keeps (Body.PhaseOne n asked) m e s a b =
       settled-keeps _ _ _ (λ f. asked-keeps n asked (mailClock (seenOf t at)))
   deliver-keeps (Body.PhaseTwo n told) m e s a b =

@@ -61,13 +61,13 @@ invoke-kept w l a k d handle c source call h i there early empty kin din quiesce
 module _ (t : Tables) (at : Places) (h site write object value place : ℕ) (here : at .site ≡ site) (own : slotOf h ≡ at .slot)
     (kin : at .message < 32) (fine : Fine (invokeChecks h site write object value (seenOf t at))) where
   invoke-there : visitAt t (at .site) (at .slot) .there ≡ true
-  invoke-there = not-false _ (fine .1 .1 .1 .0)
+  invoke-there = not-false _ (fine .there)
 
   invoke-early : siteAt t (at .site) .clock + 1 < visitAt t (at .site) (at .slot) .quiesce
-  invoke-early = leb-false _ _ (or-left _ (visitAt t (at .site) (at .slot) .dead) (fine .1 .1 .1 .1 .1 .0))
+  invoke-early = leb-false _ _ (or-left _ (visitAt t (at .site) (at .slot) .dead) (fine .early))
 
   invoke-empty : isEmpty (messageAt t (at .message) .body) ≡ true
-  invoke-empty = not-false _ (or-left _ _ (fine .1 .1 .1 .1 .1 .1 .0))
+  invoke-empty = not-false _ (or-left _ _ (fine .room))
 
   abbrev newMessage : ℕ → Message
   newMessage source =
@@ -139,7 +139,7 @@ invoke-fits t h site write object value place range fine =
     object
     value
     place
-    (let i : site ≤ 7 = ltb-false 7 site (or-right (badHandle h) (badSite site) (or-left _ _ (or-left _ _ (or-left _ _ (or-left _ _ (fine .0)))))) in omega arith)
+    (let i : site ≤ 7 = ltb-false 7 site (or-right (badHandle h) (badSite site) (or-left _ _ (or-left _ _ (or-left _ _ (or-left _ _ (fine .fields)))))) in omega arith)
     refl
     (placed-places t (lookOf (Step.Invoke h site write object value)) .message)
     fine

@@ -81,9 +81,9 @@ pub begin-fits :
     (placesOf t (lookOf (Step.Begin home slot q r)))
     (beginDone home slot q r (seenOf t (placesOf t (lookOf (Step.Begin home slot q r)))) .left)
 unfolding placesOf
-begin-fits t home slot q r (bad, (down, (wrong, rest))) =
-    let place : home < 8 = site-says home (or-left (badSite home) _ (or-left (badSite home || ltb 15 slot) _ bad)) in
-    let times : q ≤ r = times-say q r (or-right (badSite home || ltb 15 slot) (badTimes q r) bad) in
+begin-fits t home slot q r fine =
+    let place : home < 8 = site-says home (or-left (badSite home) _ (or-left (badSite home || ltb 15 slot) _ (fine .fields))) in
+    let times : q ≤ r = times-say q r (or-right (badSite home || ltb 15 slot) (badTimes q r) (fine .fields)) in
     record {
       clock = omega arith;
       mail = inl refl;
@@ -103,7 +103,7 @@ begin-fits t home slot q r (bad, (down, (wrong, rest))) =
           (omega arith)
           (omega arith)
           (omega arith)
-          (free-says _ (not-false _ wrong))
+          (free-says _ (not-false _ (fine .state)))
           times;
     }
 
@@ -203,7 +203,7 @@ pub retire-fits :
     (placesOf t (lookOf (Step.Retire h)))
     (retireDone h (remains t (placesOf t (lookOf (Step.Retire h)) .slot)) (seenOf t (placesOf t (lookOf (Step.Retire h)))) .left)
 unfolding placesOf
-retire-fits t h (bad, (there, (wrong, rest))) =
+retire-fits t h fine =
     record {
       clock = omega arith;
       mail = inl refl;
@@ -218,5 +218,5 @@ retire-fits t h (bad, (there, (wrong, rest))) =
           (nextGeneration (passageAt t (h % 16) .generation))
           l
           y
-          (or-right (not (isOver (passageAt t (h % 16) .status))) _ wrong);
+          (or-right (not (isOver (passageAt t (h % 16) .status))) _ (fine .state));
     }

@@ -62,7 +62,7 @@ pub ask-fits :
     (placesOf t (lookOf (Step.Ask h site)))
     (askDone h site place (seenOf t (placesOf t (lookOf (Step.Ask h site)))) .left)
 unfolding placesOf
-ask-fits t h site place (bad, (there, (down, (wrong, (full, (taken, rest)))))) =
+ask-fits t h site place fine =
     sent-fits
     t
     (placesOf t (lookOf (Step.Ask h site)))
@@ -71,7 +71,7 @@ ask-fits t h site place (bad, (there, (down, (wrong, (full, (taken, rest)))))) =
     site
     _
     (omega arith)
-    (not-false _ taken)
+    (not-false _ (fine .room))
     refl
     refl
     (λ l y z.
@@ -83,10 +83,10 @@ ask-fits t h site place (bad, (there, (down, (wrong, (full, (taken, rest)))))) =
     h
     _
     z
-    (not-free _ (or-left (isFree (passageAt t (h % 16) .status)) _ there))
+    (not-free _ (or-left (isFree (passageAt t (h % 16) .status)) _ (fine .found)))
     (placed-places t (lookOf (Step.Ask h site)) .message)
-    (site-says site (or-right (badHandle h) _ bad))
-    (eqb-false _ _ (or-right (not (isPhaseOne (passageAt t (h % 16) .round .phase))) _ wrong)))
+    (site-says site (or-right (badHandle h) _ (fine .fields)))
+    (eqb-false _ _ (or-right (not (isPhaseOne (passageAt t (h % 16) .round .phase))) _ (fine .state))))
 
 -- a round in phase 2 has a kind
 two-kind : (k : Kind) (p : Phase) → phaseFits k p ≡ true → p ≡ Phase.Two → k ≢ Kind.None
@@ -105,7 +105,7 @@ pub tell-fits :
     (placesOf t (lookOf (Step.Tell h site)))
     (tellDone h site place (seenOf t (placesOf t (lookOf (Step.Tell h site)))) .left)
 unfolding placesOf
-tell-fits t h site place range (bad, (there, (down, (wrong, (full, (taken, rest)))))) =
+tell-fits t h site place range fine =
     sent-fits
     t
     (placesOf t (lookOf (Step.Tell h site)))
@@ -114,7 +114,7 @@ tell-fits t h site place range (bad, (there, (down, (wrong, (full, (taken, rest)
     site
     _
     (omega arith)
-    (not-false _ taken)
+    (not-false _ (fine .room))
     refl
     refl
     (λ l y z.
@@ -126,16 +126,16 @@ tell-fits t h site place range (bad, (there, (down, (wrong, (full, (taken, rest)
     h
     _
     z
-    (not-free _ (or-left (isFree (passageAt t (h % 16) .status)) _ there))
+    (not-free _ (or-left (isFree (passageAt t (h % 16) .status)) _ (fine .found)))
     (placed-places t (lookOf (Step.Tell h site)) .message)
     s<8
-    (eqb-false _ _ (or-right (not (isPhaseTwo (passageAt t (h % 16) .round .phase)) || not (hasAnswered (passageAt t (h % 16) .round) (site % 8))) _ wrong))
+    (eqb-false _ _ (or-right (not (isPhaseTwo (passageAt t (h % 16) .round .phase)) || not (hasAnswered (passageAt t (h % 16) .round) (site % 8))) _ (fine .state)))
     two
     (subst (λ (x : ℕ). hasAnswered (passageAt t (h % 16) .round) x ≡ true) s%8 answered)
     (two-kind _ _ (phase-fits t (lookOf (Step.Tell h site)) range) two))
   where
     s<8 : site < 8
-    s<8 = site-says site (or-right (badHandle h) _ bad)
+    s<8 = site-says site (or-right (badHandle h) _ (fine .fields))
 
     s%8 : site % 8 ≡ site
     s%8 = let i : site < 8 = s<8 in omega arith
@@ -149,7 +149,7 @@ tell-fits t h site place range (bad, (there, (down, (wrong, (full, (taken, rest)
         (or-left
         (not (isPhaseTwo (passageAt t (h % 16) .round .phase)))
         _
-        (or-left (not (isPhaseTwo (passageAt t (h % 16) .round .phase)) || not (hasAnswered (passageAt t (h % 16) .round) (site % 8))) _ wrong)))
+        (or-left (not (isPhaseTwo (passageAt t (h % 16) .round .phase)) || not (hasAnswered (passageAt t (h % 16) .round) (site % 8))) _ (fine .state))))
 
     answered : hasAnswered (passageAt t (h % 16) .round) (site % 8) ≡ true
     answered =
@@ -158,4 +158,4 @@ tell-fits t h site place range (bad, (there, (down, (wrong, (full, (taken, rest)
         (or-right
         (not (isPhaseTwo (passageAt t (h % 16) .round .phase)))
         _
-        (or-left (not (isPhaseTwo (passageAt t (h % 16) .round .phase)) || not (hasAnswered (passageAt t (h % 16) .round) (site % 8))) _ wrong))
+        (or-left (not (isPhaseTwo (passageAt t (h % 16) .round .phase)) || not (hasAnswered (passageAt t (h % 16) .round) (site % 8))) _ (fine .state)))

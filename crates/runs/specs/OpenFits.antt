@@ -141,7 +141,7 @@ pub open-fits :
     (placesOf t (looksHome MailAt.Nowhere h))
     (openDone h kind bad wrong (seenOf t (placesOf t (looksHome MailAt.Nowhere h))) .left)
 unfolding placesOf
-open-fits t h kind bad wrong (x₁, (x₂, (x₃, (x₄, (missing, rest))))) o =
+open-fits t h kind bad wrong fine o =
     record {
       clock = omega arith;
       mail = inl refl;
@@ -163,7 +163,7 @@ open-fits t h kind bad wrong (x₁, (x₂, (x₃, (x₄, (missing, rest))))) o =
           y
           (omega arith)
           (let i : passageAt t (h % 16) .home < 8 = y .passage .home in omega arith)
-          (not-false _ missing)
+          (not-false _ (fine .there))
           o);
     }
 
@@ -259,7 +259,7 @@ refresh-fits t h q r f =
     _
     _
     f
-    (refresh-opens (passageAt t (h % 16) .status) q r (times-say q r (or-right (badHandle h) _ (f .0))) (not-false _ (f .1 .1 .1 .0)))
+    (refresh-opens (passageAt t (h % 16) .status) q r (times-say q r (or-right (badHandle h) _ (f .fields))) (not-false _ (f .state)))
 
 pub terminate-fits :
     (t : Tables) (h : ℕ)
@@ -281,7 +281,7 @@ pub terminate-fits :
     .left)
 unfolding placesOf
 terminate-fits t h f =
-    open-fits t h Kind.Terminate _ _ f (terminate-opens (passageAt t (h % 16) .status) (not-false _ (f .1 .1 .1 .0)))
+    open-fits t h Kind.Terminate _ _ f (terminate-opens (passageAt t (h % 16) .status) (not-false _ (f .state)))
 
 pub prepare-fits :
     (t : Tables) (h : ℕ)
@@ -303,4 +303,4 @@ pub prepare-fits :
     .left)
 unfolding placesOf
 prepare-fits t h f =
-    open-fits t h Kind.Prepare _ _ f (prepare-opens (passageAt t (h % 16) .status) (not-false _ (f .1 .1 .1 .0)))
+    open-fits t h Kind.Prepare _ _ f (prepare-opens (passageAt t (h % 16) .status) (not-false _ (f .state)))

@@ -123,7 +123,7 @@ decided-stands :
 unfolding placesOf decideOf tickOf sweepOf crashOf recoverOf beginOf abortOf retireOf refreshOf terminateOf prepareOf openOf askOf closeOf tellOf invokeOf dropOf
 decided-stands t (Step.Tick site n) place rest k u f = settled-stands _ _ _ _ (λ g. k) k
 decided-stands t (Step.Begin home slot q r) place rest k u f =
-    settled-stands _ _ _ _ (λ g. absurd (true≢false (sym (not-false (isFree (passageAt t (slotOf slot) .status)) (g .1 .1 .0)) ∙ u))) k
+    settled-stands _ _ _ _ (λ g. absurd (true≢false (sym (not-false (isFree (passageAt t (slotOf slot) .status)) (g .state)) ∙ u))) k
 decided-stands t (Step.Invoke h site write object value) place rest k u f = settled-stands _ _ _ _ (λ g. k) k
 decided-stands t (Step.Refresh h q r) place rest k u f = settled-stands _ _ _ _ (λ g. k) k
 decided-stands t (Step.Terminate h) place rest k u f = absurd (home-here (slotOf h) (passageAt t (slotOf h) .home % 8) f)

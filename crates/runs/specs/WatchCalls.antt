@@ -31,7 +31,7 @@ pub invoked-keeps :
 invoked-keeps latest t at h site write object value place own fine =
     record {
       clock = omega arith;
-      mail = inr (inl (not-false _ (or-left _ _ (fine .1 .1 .1 .1 .1 .1 .0))), inr own);
+      mail = inr (inl (not-false _ (or-left _ _ (fine .room))), inr own);
       own =
           λ e.
           record {
@@ -53,7 +53,7 @@ invoked-keeps latest t at h site write object value place own fine =
     }
   where
     there : visitAt t (at .site) (at .slot) .there ≡ true
-    there = not-false _ (fine .1 .1 .1 .0)
+    there = not-false _ (fine .there)
 
 -- ---- deliver: the message was the slot's own
 
@@ -93,7 +93,7 @@ module _ (latest : ℕ) (t : Tables) (at : Places) (m : ℕ) (own : slotOf (mess
                   c
                   (omega arith)
                   (letter-keeps (Body.Call c) body refl)
-                  (leb-false _ _ (or-left _ (calledVisit c (visitAt t (at .site) (at .slot)) .dead) (fine .1 .1 .1 .0)));
+                  (leb-false _ _ (or-left _ (calledVisit c (visitAt t (at .site) (at .slot)) .dead) (fine .early)));
               mail = empty-keeps latest view;
             };
       }
@@ -177,7 +177,7 @@ module _ (latest : ℕ) (t : Tables) (at : Places) (m : ℕ) (own : slotOf (mess
       (b : Body) → letter .body ≡ b → isAccepted (deliverBodyOf b m seen .answer) ≡ true
       → Keeps latest t at (deliverBodyOf b m seen .left)
   unfolding deliverBodyOf emptyOf deliverCallOf deliverPhaseOneOf deliverPhaseTwoOf deliverAnswerOf
-  delivered-keeps Body.Empty e y = absurd (true≢false (sym (ap isEmpty e) ∙ accepted-fine _ 0 y .1 .0))
+  delivered-keeps Body.Empty e y = absurd (true≢false (sym (ap isEmpty e) ∙ accepted-fine _ 0 y .found))
   delivered-keeps (Body.Call c) e y = delivered-settled (callDone m c seen) y (call-keeps c e (accepted-fine _ _ y))
   delivered-keeps (Body.PhaseOne n asked) e y = delivered-settled (phaseOneDone m n asked seen) y (phase-one-keeps n asked e)
   delivered-keeps (Body.PhaseTwo n told) e y = delivered-settled (phaseTwoDone m n told seen) y (phase-two-keeps n told e)

@@ -69,7 +69,7 @@ begin-guards latest site t at g home slot q r own fine =
     }
   where
     free : passageAt t (at .slot) .status ≡ Status.Free
-    free = free-says _ (not-false _ (fine .1 .1 .0))
+    free = free-says _ (not-false _ (fine .state))
 
 -- ---- abort: the passage, and the home visit where it is there
 
@@ -172,4 +172,4 @@ retire-guards latest site t at g h z own fine =
     }
   where
     none : remains t (at .slot) ≡ false
-    none = or-right (not (isOver (passageAt t (at .slot) .status))) _ (fine .1 .1 .0)
+    none = or-right (not (isOver (passageAt t (at .slot) .status))) _ (fine .state)

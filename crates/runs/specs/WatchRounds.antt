@@ -55,7 +55,7 @@ refresh-keeps latest t at h q r bad fine =
     }
   where
     active : isActive (passageAt t (at .slot) .status) ≡ true
-    active = not-false _ (fine .1 .1 .1 .0)
+    active = not-false _ (fine .state)
 
 pub terminate-keeps :
     (latest : ℕ) (t : Tables) (at : Places) (h : ℕ) (bad wrong : Bool)
@@ -127,7 +127,7 @@ prepare-guards latest site t at g h bad own fine =
     }
   where
     running : isRunning (passageAt t (at .slot) .status) ≡ true
-    running = not-false _ (fine .1 .1 .1 .0)
+    running = not-false _ (fine .state)
 
 -- ---- ask and tell: a message of the open round goes into an empty slot
 
@@ -168,14 +168,14 @@ asked-out-keeps latest t at h site place own fine =
     site
     _
     (omega arith)
-    (not-false _ (fine .1 .1 .1 .1 .1 .0))
+    (not-false _ (fine .room))
     own
     (λ e.
     ask-keeps
     latest
     (viewOf t (at .slot))
     e
-    (one-open _ (not-false _ (or-left (not (isPhaseOne (passageAt t (at .slot) .round .phase))) _ (fine .1 .1 .1 .0)))))
+    (one-open _ (not-false _ (or-left (not (isPhaseOne (passageAt t (at .slot) .round .phase))) _ (fine .state)))))
 
 pub told-out-keeps :
     (latest : ℕ) (t : Tables) (at : Places) (h site place : ℕ) → slotOf h ≡ at .slot → Fine (tellChecks h site (seenOf t at))
@@ -190,7 +190,7 @@ told-out-keeps latest t at h site place own fine =
     site
     _
     (omega arith)
-    (not-false _ (fine .1 .1 .1 .1 .1 .0))
+    (not-false _ (fine .room))
     own
     (λ e.
     tell-keeps
@@ -204,7 +204,7 @@ told-out-keeps latest t at h site place own fine =
     (or-left
     (not (isPhaseTwo (passageAt t (at .slot) .round .phase)))
     _
-    (or-left (not (isPhaseTwo (passageAt t (at .slot) .round .phase)) || not (hasAnswered (passageAt t (at .slot) .round) (site % 8))) _ (fine .1 .1 .1 .0))))))
+    (or-left (not (isPhaseTwo (passageAt t (at .slot) .round .phase)) || not (hasAnswered (passageAt t (at .slot) .round) (site % 8))) _ (fine .state))))))
 
 -- ---- close: the passage, and the home visit's phase 2 part where it is there
 
@@ -247,4 +247,4 @@ close-keeps latest t at h fine =
     }
   where
     one : passageAt t (at .slot) .round .phase ≢ Phase.None
-    one = one-open _ (not-false _ (fine .1 .1 .1 .0))
+    one = one-open _ (not-false _ (fine .state))
