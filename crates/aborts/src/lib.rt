@@ -2,9 +2,8 @@
 // It equals its definition in rules' specs/Passages.antt: the checks in the order of the refusal table, then the records that are left.
 use checks::bad_handle;
 use checks::clock_full;
-use checks::first_of;
-use checks::never;
 use checks::no_passage;
+use checks::or_else;
 use checks::refuse;
 use checks::settle;
 use checks::site_down;
@@ -50,22 +49,11 @@ pub fn abort(h: u16, seen: Seen) -> Decision
     let p = seen.passage;
     let status = p.status;
     let clock = s.clock + 1;
-    let checks = [
-        refuse(Refusal::BadField, bad_handle(h)),
-        no_passage(h, seen),
-        site_down(seen),
-        refuse(Refusal::WrongState, !is_running(status)),
-        clock_full(clock),
-        never(),
-        never(),
-    ];
-    let answer = first_of(checks, 0);
+    let tried = refuse(Refusal::BadField, bad_handle(h));
+    let tried = or_else(tried, no_passage(h, seen));
+    let tried = or_else(tried, site_down(seen));
+    let tried = or_else(tried, refuse(Refusal::WrongState, !is_running(status)));
+    let tried = or_else(tried, clock_full(clock));
     let left = aborted(clock, seen);
-    settle(
-        Decision {
-            answer: answer,
-            left: left,
-        },
-        seen,
-    )
+    settle(tried, 0, left, seen)
 }

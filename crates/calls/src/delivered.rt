@@ -1,8 +1,7 @@
 // A call arrives.
 use checks::bad_message;
 use checks::clock_full;
-use checks::first_of;
-use checks::never;
+use checks::or_else;
 use checks::refuse;
 use checks::settle;
 use checks::site_down;
@@ -18,6 +17,7 @@ use parts::visits::new_visit;
 use rules::answers::Decision;
 use rules::answers::Refusal;
 use rules::answers::Seen;
+use rules::limits::COUNT_MOST;
 use rules::tables::Call;
 use rules::tables::Object;
 use rules::tables::Visit;
@@ -79,22 +79,18 @@ pub fn deliver_call(m: u8, call: Call, seen: Seen) -> Decision
     let v = called_visit(call, seen.visit);
     let object = called_object(call, seen);
     let holder = object.holder;
-    let checks = [
-        refuse(Refusal::BadField, bad_message(m)),
-        site_down(seen),
-        clock_full(clock),
+    let tried = refuse(Refusal::BadField, bad_message(m));
+    let tried = or_else(tried, site_down(seen));
+    let tried = or_else(tried, clock_full(clock));
+    let tried = or_else(
+        tried,
         refuse(Refusal::Quiesced, (v.quiesce as u64 <= clock) | v.dead),
+    );
+    let tried = or_else(
+        tried,
         refuse(Refusal::Held, is_held_by_other(mail_slot(seen), holder)),
-        refuse(Refusal::Full, 1000 <= v.received),
-        never(),
-    ];
-    let answer = first_of(checks, object.value as u64);
+    );
+    let tried = or_else(tried, refuse(Refusal::Full, COUNT_MOST <= v.received));
     let left = called(call, clock, seen);
-    settle(
-        Decision {
-            answer: answer,
-            left: left,
-        },
-        seen,
-    )
+    settle(tried, object.value as u64, left, seen)
 }

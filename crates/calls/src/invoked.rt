@@ -2,9 +2,9 @@
 use checks::bad_handle;
 use checks::bad_site;
 use checks::clock_full;
-use checks::first_of;
 use checks::is_full;
 use checks::no_passage;
+use checks::or_else;
 use checks::refuse;
 use checks::settle;
 use checks::site_down;
@@ -15,6 +15,9 @@ use parts::visits::count_sent;
 use rules::answers::Decision;
 use rules::answers::Refusal;
 use rules::answers::Seen;
+use rules::limits::COUNT_MOST;
+use rules::limits::OBJECT_MOST;
+use rules::limits::WIDTH_MOST;
 use rules::tables::Body;
 use rules::tables::Call;
 use rules::tables::Visit;
@@ -37,8 +40,8 @@ fn bad_call(h: u16, site: u8, write: u8, object: u8, value: u32) -> bool
     bad_handle(h)
         | bad_site(site)
         | (1 < write)
-        | (31 < object)
-        | (1000000 < value)
+        | (OBJECT_MOST < object)
+        | (WIDTH_MOST < value)
         | ((write == 0) & !(value == 0))
 }
 
@@ -83,7 +86,7 @@ fn is_sent_out(object: u8, v: Visit) -> bool
     ensures { λ r. ⌜ r ≡ isSentOut object v ⌝ }
 {
     let to = call_site(object) as usize;
-    1000 <= v.sent[to]
+    COUNT_MOST <= v.sent[to]
 }
 
 // 3. invoke, where place is the lowest empty message slot.
@@ -102,22 +105,19 @@ pub fn invoke(
     let s = seen.site;
     let v = seen.visit;
     let clock = s.clock + 1;
-    let checks = [
-        refuse(Refusal::BadField, bad_call(h, site, write, object, value)),
-        no_passage(h, seen),
-        site_down(seen),
-        visit_missing(seen),
-        clock_full(clock),
+    let tried = refuse(Refusal::BadField, bad_call(h, site, write, object, value));
+    let tried = or_else(tried, no_passage(h, seen));
+    let tried = or_else(tried, site_down(seen));
+    let tried = or_else(tried, visit_missing(seen));
+    let tried = or_else(tried, clock_full(clock));
+    let tried = or_else(
+        tried,
         refuse(Refusal::Quiesced, (v.quiesce as u64 <= clock) | v.dead),
+    );
+    let tried = or_else(
+        tried,
         refuse(Refusal::Full, is_full(seen) | is_sent_out(object, v)),
-    ];
-    let answer = first_of(checks, place as u64);
+    );
     let left = invoked(h, site, call_of(write, object, value, v), clock, seen);
-    settle(
-        Decision {
-            answer: answer,
-            left: left,
-        },
-        seen,
-    )
+    settle(tried, place as u64, left, seen)
 }

@@ -6,11 +6,14 @@ use rules::answers::Check;
 use rules::answers::Decision;
 use rules::answers::Refusal;
 use rules::answers::Seen;
-ghost use Prim.Native.Nat.{ℕ};
+use rules::limits::CLOCK_MOST;
+use rules::limits::HANDLE_MOST;
+use rules::limits::MESSAGE_MOST;
+use rules::limits::SITE_MOST;
+use rules::limits::TIME_MOST;
 ghost use mathlib.Core.Path.{_≡_};
-ghost use mathlib.Core.Bool.{false};
-ghost use Rattle.rules.specs.Answers.{refuse, firstOf, isAccepted, settleOf, refusalNumber};
-ghost use Rattle.checks.specs.Order.{answerOr};
+ghost use Rattle.rules.specs.Answers.{refuse};
+ghost use Rattle.checks.specs.Order.{orElse, settledBy};
 ghost use Rattle.rules.specs.Checks.{badSite, badHandle, badTimes, badMessage, noPassage, noMail, siteDown, visitMissing, clockFull, isFull};
 
 pub fn refuse(gives: Refusal, holds: bool) -> Check
@@ -22,63 +25,27 @@ pub fn refuse(gives: Refusal, holds: bool) -> Check
     }
 }
 
-// A check that never holds: what fills a list that is shorter than seven.
-pub fn never() -> Check
-    ensures { λ r. ⌜ r ≡ refuse Refusal.OutOfRange false ⌝ }
+// Of two checks the first that holds: what was tried so far, or else the next one.
+pub fn or_else(tried: Check, next: Check) -> Check
+    ensures { λ r. ⌜ r ≡ orElse tried next ⌝ }
 {
-    Check {
-        holds: false,
-        gives: Refusal::OutOfRange,
-    }
+    if tried.holds { tried } else { next }
 }
 
-// The answer so far, with one check before it.
-fn answer_or(check: Check, rest: Answer) -> Answer
-    ensures { λ r. ⌜ r ≡ answerOr check rest ⌝ }
+// A step is settled by what was tried: refused it keeps what was seen, accepted it answers this value and leaves these records.
+pub fn settle(tried: Check, value: u64, left: Seen, seen: Seen) -> Decision
+    ensures { λ r. ⌜ r ≡ settledBy tried value left seen ⌝ }
 {
-    if check.holds {
-        let gives = check.gives;
-        Answer::Refused(gives)
-    } else {
-        rest
-    }
-}
-
-// The first check that holds refuses; where none does, the step is accepted with this value.
-pub fn first_of(checks: [Check; 7], value: u64) -> Answer
-    ensures { λ r. ⌜ r ≡ firstOf checks value ⌝ }
-{
-    let mut answer = Answer::Accepted(value);
-    let mut i: usize = 7;
-    while 0 < i {
-        i -= 1;
-        let check = checks[i];
-        let next = answer_or(check, answer);
-        answer = next;
-    }
-    answer
-}
-
-fn is_accepted(answer: Answer) -> bool
-    ensures { λ r. ⌜ r ≡ isAccepted answer ⌝ }
-{
-    match answer {
-        Answer::Accepted(_) => true,
-        Answer::Refused(_) => false,
-    }
-}
-
-// A refused decision keeps what was seen.
-pub fn settle(d: Decision, seen: Seen) -> Decision
-    ensures { λ r. ⌜ r ≡ settleOf d seen ⌝ }
-{
-    let answer = d.answer;
-    if is_accepted(answer) {
-        d
+    if tried.holds {
+        let gives = tried.gives;
+        Decision {
+            answer: Answer::Refused(gives),
+            left: seen,
+        }
     } else {
         Decision {
-            answer: answer,
-            left: seen,
+            answer: Answer::Accepted(value),
+            left: left,
         }
     }
 }
@@ -86,25 +53,25 @@ pub fn settle(d: Decision, seen: Seen) -> Decision
 pub fn bad_site(site: u8) -> bool
     ensures { λ r. ⌜ r ≡ badSite site ⌝ }
 {
-    7 < site
+    SITE_MOST < site
 }
 
 pub fn bad_handle(h: u16) -> bool
     ensures { λ r. ⌜ r ≡ badHandle h ⌝ }
 {
-    4095 < h
+    HANDLE_MOST < h
 }
 
 pub fn bad_times(quiesce: u32, release: u32) -> bool
     ensures { λ r. ⌜ r ≡ badTimes quiesce release ⌝ }
 {
-    (1000000000 < quiesce) | (1000000000 < release) | (release < quiesce)
+    (TIME_MOST < quiesce) | (TIME_MOST < release) | (release < quiesce)
 }
 
 pub fn bad_message(m: u8) -> bool
     ensures { λ r. ⌜ r ≡ badMessage m ⌝ }
 {
-    31 < m
+    MESSAGE_MOST < m
 }
 
 // The handle's slot is free, or it has another generation.
@@ -143,7 +110,7 @@ pub fn visit_missing(seen: Seen) -> Check
 pub fn clock_full(clock: u64) -> Check
     ensures { λ r. ⌜ r ≡ clockFull clock ⌝ }
 {
-    refuse(Refusal::ClockFull, 2000000000 < clock)
+    refuse(Refusal::ClockFull, CLOCK_MOST < clock)
 }
 
 // No empty message slot: the one looked at as the lowest empty one is not empty.

@@ -2,9 +2,8 @@
 // It equals its definition in rules' specs/Rounds.antt: the checks in the order of the refusal table, then the records that are left.
 use checks::bad_handle;
 use checks::clock_full;
-use checks::first_of;
-use checks::never;
 use checks::no_passage;
+use checks::or_else;
 use checks::refuse;
 use checks::settle;
 use checks::site_down;
@@ -94,22 +93,12 @@ pub fn close(h: u16, seen: Seen) -> Decision
     let round = p.round;
     let phase = round.phase;
     let clock = s.clock + 1;
-    let checks = [
-        refuse(Refusal::BadField, bad_handle(h)),
-        no_passage(h, seen),
-        site_down(seen),
-        refuse(Refusal::WrongState, !is_phase_one(phase)),
-        clock_full(clock),
-        refuse(Refusal::NotClosed, !is_closed(round)),
-        never(),
-    ];
-    let answer = first_of(checks, answer_count(round) as u64);
+    let tried = refuse(Refusal::BadField, bad_handle(h));
+    let tried = or_else(tried, no_passage(h, seen));
+    let tried = or_else(tried, site_down(seen));
+    let tried = or_else(tried, refuse(Refusal::WrongState, !is_phase_one(phase)));
+    let tried = or_else(tried, clock_full(clock));
+    let tried = or_else(tried, refuse(Refusal::NotClosed, !is_closed(round)));
     let left = closed(round_told(round), (h % 16) as u8, clock, seen);
-    settle(
-        Decision {
-            answer: answer,
-            left: left,
-        },
-        seen,
-    )
+    settle(tried, answer_count(round) as u64, left, seen)
 }

@@ -2,9 +2,8 @@
 use calls::delivered::deliver_call;
 use checks::bad_message;
 use checks::clock_full;
-use checks::first_of;
-use checks::never;
 use checks::no_mail;
+use checks::or_else;
 use checks::refuse;
 use checks::settle;
 use checks::site_down;
@@ -30,23 +29,9 @@ ghost use Rattle.rules.specs.Calls.{emptyOf, answeredAt, deliverAnswerOf, deliv
 fn deliver_empty(m: u8, seen: Seen) -> Decision
     ensures { λ r. ⌜ r ≡ emptyOf m seen ⌝ }
 {
-    let checks = [
-        refuse(Refusal::BadField, bad_message(m)),
-        no_mail(seen),
-        never(),
-        never(),
-        never(),
-        never(),
-        never(),
-    ];
-    let answer = first_of(checks, 0);
-    settle(
-        Decision {
-            answer: answer,
-            left: seen,
-        },
-        seen,
-    )
+    let tried = refuse(Refusal::BadField, bad_message(m));
+    let tried = or_else(tried, no_mail(seen));
+    settle(tried, 0, seen, seen)
 }
 
 // What a delivered answer leaves at this clock.
@@ -85,32 +70,23 @@ fn deliver_answer(m: u8, number: u16, received: u16, quiesce: u32, seen: Seen) -
     let phase = round.phase;
     let mail = seen.message;
     let sent = mail.sent;
-    let checks = [
-        refuse(Refusal::BadField, bad_message(m)),
-        site_down(seen),
-        clock_full(clock),
+    let tried = refuse(Refusal::BadField, bad_message(m));
+    let tried = or_else(tried, site_down(seen));
+    let tried = or_else(tried, clock_full(clock));
+    let tried = or_else(
+        tried,
         refuse(
             Refusal::WrongRound,
             is_free(status) | !is_phase_one(phase) | !(number == round.number),
         ),
-        never(),
-        never(),
-        never(),
-    ];
-    let answer = first_of(checks, 0);
+    );
     let figures = Figures {
         sent: sent,
         received: received,
         quiesce: quiesce,
     };
     let left = answered_at(figures, clock, seen);
-    settle(
-        Decision {
-            answer: answer,
-            left: left,
-        },
-        seen,
-    )
+    settle(tried, 0, left, seen)
 }
 
 // 11. deliver, by what the message slot holds.

@@ -1,8 +1,7 @@
 // A message is lost.
 use checks::bad_message;
-use checks::first_of;
-use checks::never;
 use checks::no_mail;
+use checks::or_else;
 use checks::refuse;
 use checks::settle;
 use parts::passages::no_message;
@@ -34,22 +33,8 @@ fn lost(seen: Seen) -> Seen
 pub fn drop(m: u8, seen: Seen) -> Decision
     ensures { λ r. ⌜ r ≡ dropOf m seen ⌝ }
 {
-    let checks = [
-        refuse(Refusal::BadField, bad_message(m)),
-        no_mail(seen),
-        never(),
-        never(),
-        never(),
-        never(),
-        never(),
-    ];
-    let answer = first_of(checks, 0);
+    let tried = refuse(Refusal::BadField, bad_message(m));
+    let tried = or_else(tried, no_mail(seen));
     let left = lost(seen);
-    settle(
-        Decision {
-            answer: answer,
-            left: left,
-        },
-        seen,
-    )
+    settle(tried, 0, left, seen)
 }

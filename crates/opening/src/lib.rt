@@ -3,8 +3,8 @@
 use checks::bad_handle;
 use checks::bad_times;
 use checks::clock_full;
-use checks::first_of;
 use checks::no_passage;
+use checks::or_else;
 use checks::refuse;
 use checks::settle;
 use checks::site_down;
@@ -22,6 +22,7 @@ use parts::visits::figures_of;
 use rules::answers::Decision;
 use rules::answers::Refusal;
 use rules::answers::Seen;
+use rules::limits::COUNT_MOST;
 use rules::tables::Kind;
 use rules::tables::Passage;
 use rules::tables::Visit;
@@ -90,24 +91,15 @@ fn open(h: u16, kind: Kind, bad: bool, wrong: bool, seen: Seen) -> Decision
     let round = p.round;
     let number = round.number + 1;
     let clock = s.clock + 1;
-    let checks = [
-        refuse(Refusal::BadField, bad),
-        no_passage(h, seen),
-        site_down(seen),
-        refuse(Refusal::WrongState, wrong),
-        visit_missing(seen),
-        clock_full(clock),
-        refuse(Refusal::Full, 1000 <= round.number),
-    ];
-    let answer = first_of(checks, number as u64);
+    let tried = refuse(Refusal::BadField, bad);
+    let tried = or_else(tried, no_passage(h, seen));
+    let tried = or_else(tried, site_down(seen));
+    let tried = or_else(tried, refuse(Refusal::WrongState, wrong));
+    let tried = or_else(tried, visit_missing(seen));
+    let tried = or_else(tried, clock_full(clock));
+    let tried = or_else(tried, refuse(Refusal::Full, COUNT_MOST <= round.number));
     let left = opened(kind, clock, seen);
-    settle(
-        Decision {
-            answer: answer,
-            left: left,
-        },
-        seen,
-    )
+    settle(tried, number as u64, left, seen)
 }
 
 // 4. refresh

@@ -2,8 +2,7 @@
 // Each equals its definition in rules' specs/Stations.antt: the checks in the order of the refusal table, then the records that are left.
 use checks::bad_site;
 use checks::clock_full;
-use checks::first_of;
-use checks::never;
+use checks::or_else;
 use checks::refuse;
 use checks::settle;
 use checks::site_down;
@@ -29,28 +28,15 @@ pub fn crash(site: u8, seen: Seen) -> Decision
 {
     let s = seen.site;
     let clock = s.clock + 1;
-    let checks = [
-        refuse(Refusal::BadField, bad_site(site)),
-        site_down(seen),
-        clock_full(clock),
-        never(),
-        never(),
-        never(),
-        never(),
-    ];
-    let answer = first_of(checks, 0);
+    let tried = refuse(Refusal::BadField, bad_site(site));
+    let tried = or_else(tried, site_down(seen));
+    let tried = or_else(tried, clock_full(clock));
     let down = Site {
         clock: clock,
         up: false,
     };
     let left = left_site(seen, down);
-    settle(
-        Decision {
-            answer: answer,
-            left: left,
-        },
-        seen,
-    )
+    settle(tried, 0, left, seen)
 }
 
 // A running passage whose home this is.
@@ -105,26 +91,13 @@ pub fn recover(site: u8, seen: Seen) -> Decision
 {
     let s = seen.site;
     let clock = s.clock + 1;
-    let checks = [
-        refuse(Refusal::BadField, bad_site(site)),
-        refuse(Refusal::WrongState, s.up),
-        clock_full(clock),
-        never(),
-        never(),
-        never(),
-        never(),
-    ];
-    let answer = first_of(checks, 0);
+    let tried = refuse(Refusal::BadField, bad_site(site));
+    let tried = or_else(tried, refuse(Refusal::WrongState, s.up));
+    let tried = or_else(tried, clock_full(clock));
     let up = Site {
         clock: clock,
         up: true,
     };
     let left = left_site(seen, up);
-    settle(
-        Decision {
-            answer: answer,
-            left: left,
-        },
-        seen,
-    )
+    settle(tried, 0, left, seen)
 }

@@ -4,9 +4,8 @@ use checks::bad_handle;
 use checks::bad_site;
 use checks::bad_times;
 use checks::clock_full;
-use checks::first_of;
-use checks::never;
 use checks::no_passage;
+use checks::or_else;
 use checks::refuse;
 use checks::settle;
 use checks::site_down;
@@ -18,6 +17,7 @@ use parts::visits::new_visit;
 use rules::answers::Decision;
 use rules::answers::Refusal;
 use rules::answers::Seen;
+use rules::limits::SLOT_MOST;
 use rules::tables::Passage;
 use rules::tables::Status;
 ghost use mathlib.Core.Path.{_≡_};
@@ -54,27 +54,16 @@ pub fn begin(home: u8, slot: u8, quiesce: u32, release: u32, seen: Seen) -> Deci
     let p = seen.passage;
     let status = p.status;
     let clock = s.clock + 1;
-    let checks = [
-        refuse(
-            Refusal::BadField,
-            bad_site(home) | (15 < slot) | bad_times(quiesce, release),
-        ),
-        site_down(seen),
-        refuse(Refusal::WrongState, !is_free(status)),
-        clock_full(clock),
-        refuse(Refusal::Quiesced, quiesce as u64 <= clock),
-        never(),
-        never(),
-    ];
-    let answer = first_of(checks, handle_of(slot, p.generation));
+    let tried = refuse(
+        Refusal::BadField,
+        bad_site(home) | (SLOT_MOST < slot) | bad_times(quiesce, release),
+    );
+    let tried = or_else(tried, site_down(seen));
+    let tried = or_else(tried, refuse(Refusal::WrongState, !is_free(status)));
+    let tried = or_else(tried, clock_full(clock));
+    let tried = or_else(tried, refuse(Refusal::Quiesced, quiesce as u64 <= clock));
     let left = begun(home, quiesce, release, clock, seen);
-    settle(
-        Decision {
-            answer: answer,
-            left: left,
-        },
-        seen,
-    )
+    settle(tried, handle_of(slot, p.generation), left, seen)
 }
 
 // What a begin leaves at this clock.
@@ -143,22 +132,12 @@ pub fn retire(h: u16, remains: bool, seen: Seen) -> Decision
 {
     let p = seen.passage;
     let status = p.status;
-    let checks = [
-        refuse(Refusal::BadField, bad_handle(h)),
-        no_passage(h, seen),
+    let tried = refuse(Refusal::BadField, bad_handle(h));
+    let tried = or_else(tried, no_passage(h, seen));
+    let tried = or_else(
+        tried,
         refuse(Refusal::WrongState, !is_over(status) | remains),
-        never(),
-        never(),
-        never(),
-        never(),
-    ];
-    let answer = first_of(checks, 0);
+    );
     let left = retired(seen);
-    settle(
-        Decision {
-            answer: answer,
-            left: left,
-        },
-        seen,
-    )
+    settle(tried, 0, left, seen)
 }

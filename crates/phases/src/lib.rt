@@ -2,8 +2,7 @@
 // Each equals its definition in rules' specs/Calls.antt: the checks in the order of the refusal table, then the records that are left.
 use checks::bad_message;
 use checks::clock_full;
-use checks::first_of;
-use checks::never;
+use checks::or_else;
 use checks::refuse;
 use checks::settle;
 use checks::site_down;
@@ -22,7 +21,7 @@ use parts::seen::mail_slot;
 use parts::visits::asked_visit;
 use parts::visits::clock_to;
 use parts::visits::told_visit;
-use rules::answers::Answer;
+use rules::answers::Check;
 use rules::answers::Decision;
 use rules::answers::Refusal;
 use rules::answers::Seen;
@@ -33,24 +32,21 @@ use rules::tables::Status;
 use rules::tables::Told;
 use rules::tables::Visit;
 ghost use mathlib.Core.Path.{_≡_};
+ghost use Rattle.checks.specs.Order.{triedAll};
 ghost use Rattle.rules.specs.Sane.{Sane};
-ghost use Rattle.rules.specs.Calls.{roundAnswer, statusAtHome, replyOf, askedAt, deliverPhaseOneOf, toldAt, deliverPhaseTwoOf};
+ghost use Rattle.rules.specs.Calls.{roundChecks, statusAtHome, replyOf, askedAt, deliverPhaseOneOf, toldAt, deliverPhaseTwoOf};
 
 // What a delivered phase 1 or phase 2 message tries.
-fn round_answer(m: u8, life: bool, wrong: bool, clock: u64, seen: Seen) -> Answer
-    ensures { λ r. ⌜ r ≡ roundAnswer m life wrong clock seen ⌝ }
+fn round_tried(m: u8, life: bool, wrong: bool, clock: u64, seen: Seen) -> Check
+    ensures { λ r. ⌜ r ≡ triedAll (roundChecks m life wrong clock seen) ⌝ }
 {
     let v = seen.visit;
-    let checks = [
-        refuse(Refusal::BadField, bad_message(m)),
-        site_down(seen),
-        visit_missing(seen),
-        clock_full(clock),
-        refuse(Refusal::Quiesced, life & v.dead),
-        refuse(Refusal::WrongRound, wrong),
-        never(),
-    ];
-    first_of(checks, 0)
+    let tried = refuse(Refusal::BadField, bad_message(m));
+    let tried = or_else(tried, site_down(seen));
+    let tried = or_else(tried, visit_missing(seen));
+    let tried = or_else(tried, clock_full(clock));
+    let tried = or_else(tried, refuse(Refusal::Quiesced, life & v.dead));
+    or_else(tried, refuse(Refusal::WrongRound, wrong))
 }
 
 // At home the passage takes this status.
@@ -107,15 +103,9 @@ pub fn deliver_phase_one(m: u8, number: u16, asked: Asked, seen: Seen) -> Decisi
 {
     let clock = mail_clock(seen);
     let v = seen.visit;
-    let answer = round_answer(m, asks_life(asked), number <= v.round, clock, seen);
+    let tried = round_tried(m, asks_life(asked), number <= v.round, clock, seen);
     let left = asked_at(number, asked, clock, seen);
-    settle(
-        Decision {
-            answer: answer,
-            left: left,
-        },
-        seen,
-    )
+    settle(tried, 0, left, seen)
 }
 
 // What a delivered phase 2 message leaves at this clock.
@@ -148,13 +138,7 @@ pub fn deliver_phase_two(m: u8, number: u16, told: Told, seen: Seen) -> Decision
 {
     let clock = mail_clock(seen);
     let v = seen.visit;
-    let answer = round_answer(m, tells_life(told), !(number == v.round), clock, seen);
+    let tried = round_tried(m, tells_life(told), !(number == v.round), clock, seen);
     let left = told_at(told, clock, seen);
-    settle(
-        Decision {
-            answer: answer,
-            left: left,
-        },
-        seen,
-    )
+    settle(tried, 0, left, seen)
 }

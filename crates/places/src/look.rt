@@ -6,6 +6,7 @@ use rules::answers::MailAt;
 use rules::answers::SiteAt;
 use rules::answers::SlotAt;
 use rules::answers::Trip;
+use rules::limits::MESSAGE_MOST;
 use rules::steps::Step;
 use rules::tables::Body;
 use rules::tables::Message;
@@ -135,7 +136,7 @@ pub fn mail_place(at: MailAt, e: usize) -> usize
     match at {
         MailAt::Nowhere => 0,
         MailAt::Given(m) => (m % 32) as usize,
-        MailAt::Empty => at_most(e, 31),
+        MailAt::Empty => at_most(e, MESSAGE_MOST as usize),
     }
 }
 

@@ -1,4 +1,12 @@
 // Number 20: whether every number of every table is in its range.
+use rules::limits::CLOCK_MOST;
+use rules::limits::COUNT_MOST;
+use rules::limits::HANDLE_MOST;
+use rules::limits::OBJECT_MOST;
+use rules::limits::SITE_MOST;
+use rules::limits::SLOT_MOST;
+use rules::limits::TIME_MOST;
+use rules::limits::WIDTH_MOST;
 use rules::tables::Asked;
 use rules::tables::Body;
 use rules::tables::Call;
@@ -24,7 +32,7 @@ ghost use Rattle.rules.specs.Ranges.{siteInRange, holderInRange, objectInRange,
 fn site_in_range(s: Site) -> bool
     ensures { λ r. ⌜ r ≡ siteInRange s ⌝ }
 {
-    s.clock <= 2000000000
+    s.clock <= CLOCK_MOST
 }
 
 fn holder_in_range(h: Holder) -> bool
@@ -32,7 +40,7 @@ fn holder_in_range(h: Holder) -> bool
 {
     match h {
         Holder::Nobody => true,
-        Holder::Slot(p) => p <= 15,
+        Holder::Slot(p) => p <= SLOT_MOST,
     }
 }
 
@@ -40,7 +48,7 @@ fn object_in_range(o: Object) -> bool
     ensures { λ r. ⌜ r ≡ objectInRange o ⌝ }
 {
     let holder = o.holder;
-    (o.value <= 1000000) & (o.before <= 1000000) & holder_in_range(holder)
+    (o.value <= WIDTH_MOST) & (o.before <= WIDTH_MOST) & holder_in_range(holder)
 }
 
 fn counts_in_range(sent: [u16; 8]) -> bool
@@ -49,7 +57,7 @@ fn counts_in_range(sent: [u16; 8]) -> bool
     let mut ok = true;
     let mut d: usize = 0;
     while d < 8 {
-        ok = ok & (sent[d] <= 1000);
+        ok = ok & (sent[d] <= COUNT_MOST);
         d += 1;
     }
     ok
@@ -59,7 +67,7 @@ fn figures_in_range(f: Figures) -> bool
     ensures { λ r. ⌜ r ≡ figuresInRange f ⌝ }
 {
     let sent = f.sent;
-    counts_in_range(sent) & (f.received <= 1000) & (f.quiesce <= 1000000000)
+    counts_in_range(sent) & (f.received <= COUNT_MOST) & (f.quiesce <= TIME_MOST)
 }
 
 fn kind_in_range(k: Kind) -> bool
@@ -67,7 +75,7 @@ fn kind_in_range(k: Kind) -> bool
 {
     match k {
         Kind::None => true,
-        Kind::Refresh { quiesce, release } => (quiesce <= 1000000000) & (release <= 1000000000),
+        Kind::Refresh { quiesce, release } => (quiesce <= TIME_MOST) & (release <= TIME_MOST),
         Kind::Terminate => true,
         Kind::Prepare => true,
     }
@@ -116,7 +124,7 @@ fn round_in_range(r: Round) -> bool
     let kind = r.kind;
     let phase = r.phase;
     let figures = r.figures;
-    (r.number <= 1000)
+    (r.number <= COUNT_MOST)
         & kind_in_range(kind)
         & phase_fits(kind, phase)
         & all_figures_in_range(figures)
@@ -126,35 +134,35 @@ fn passage_in_range(p: Passage) -> bool
     ensures { λ r. ⌜ r ≡ passageInRange p ⌝ }
 {
     let round = p.round;
-    (p.home <= 7) & round_in_range(round)
+    (p.home <= SITE_MOST) & round_in_range(round)
 }
 
 fn visit_in_range(v: Visit) -> bool
     ensures { λ r. ⌜ r ≡ visitInRange v ⌝ }
 {
     let sent = v.sent;
-    (v.quiesce <= 1000000000)
-        & (v.release <= 1000000000)
-        & (v.round <= 1000)
+    (v.quiesce <= TIME_MOST)
+        & (v.release <= TIME_MOST)
+        & (v.round <= COUNT_MOST)
         & counts_in_range(sent)
-        & (v.received <= 1000)
+        & (v.received <= COUNT_MOST)
 }
 
 fn call_in_range(c: Call) -> bool
     ensures { λ r. ⌜ r ≡ callInRange c ⌝ }
 {
-    (c.quiesce <= 1000000000)
-        & (c.release <= 1000000000)
-        & (c.round <= 1000)
-        & (c.object <= 31)
-        & (c.value <= 1000000)
+    (c.quiesce <= TIME_MOST)
+        & (c.release <= TIME_MOST)
+        & (c.round <= COUNT_MOST)
+        & (c.object <= OBJECT_MOST)
+        & (c.value <= WIDTH_MOST)
 }
 
 fn asked_in_range(a: Asked) -> bool
     ensures { λ r. ⌜ r ≡ askedInRange a ⌝ }
 {
     match a {
-        Asked::Refresh(release) => release <= 1000000000,
+        Asked::Refresh(release) => release <= TIME_MOST,
         Asked::Terminate => true,
         Asked::Prepare => true,
     }
@@ -164,8 +172,8 @@ fn told_in_range(t: Told) -> bool
     ensures { λ r. ⌜ r ≡ toldInRange t ⌝ }
 {
     match t {
-        Told::Refresh(quiesce) => quiesce <= 1000000000,
-        Told::Terminate(m) => m <= 1000000000,
+        Told::Refresh(quiesce) => quiesce <= TIME_MOST,
+        Told::Terminate(m) => m <= TIME_MOST,
         Told::Prepare => true,
     }
 }
@@ -176,13 +184,13 @@ fn body_in_range(b: Body) -> bool
     match b {
         Body::Empty => true,
         Body::Call(c) => call_in_range(c),
-        Body::PhaseOne { number, asked } => (number <= 1000) & asked_in_range(asked),
-        Body::PhaseTwo { number, told } => (number <= 1000) & told_in_range(told),
+        Body::PhaseOne { number, asked } => (number <= COUNT_MOST) & asked_in_range(asked),
+        Body::PhaseTwo { number, told } => (number <= COUNT_MOST) & told_in_range(told),
         Body::Answer {
             number,
             received,
             quiesce,
-        } => (number <= 1000) & (received <= 1000) & (quiesce <= 1000000000),
+        } => (number <= COUNT_MOST) & (received <= COUNT_MOST) & (quiesce <= TIME_MOST),
     }
 }
 
@@ -191,10 +199,10 @@ fn message_in_range(m: Message) -> bool
 {
     let body = m.body;
     let sent = m.sent;
-    (m.source <= 7)
-        & (m.destination <= 7)
-        & (m.handle <= 4095)
-        & (m.stamp <= 2000000000)
+    (m.source <= SITE_MOST)
+        & (m.destination <= SITE_MOST)
+        & (m.handle <= HANDLE_MOST)
+        & (m.stamp <= CLOCK_MOST)
         & counts_in_range(sent)
         & body_in_range(body)
 }

@@ -3,10 +3,9 @@
 use checks::bad_handle;
 use checks::bad_site;
 use checks::clock_full;
-use checks::first_of;
 use checks::is_full;
-use checks::never;
 use checks::no_passage;
+use checks::or_else;
 use checks::refuse;
 use checks::settle;
 use checks::site_down;
@@ -65,24 +64,17 @@ pub fn ask(h: u16, site: u8, place: usize, seen: Seen) -> Decision
     let round = p.round;
     let phase = round.phase;
     let clock = s.clock + 1;
-    let checks = [
-        refuse(Refusal::BadField, bad_handle(h) | bad_site(site)),
-        no_passage(h, seen),
-        site_down(seen),
+    let tried = refuse(Refusal::BadField, bad_handle(h) | bad_site(site));
+    let tried = or_else(tried, no_passage(h, seen));
+    let tried = or_else(tried, site_down(seen));
+    let tried = or_else(
+        tried,
         refuse(Refusal::WrongState, !is_phase_one(phase) | (site == p.home)),
-        clock_full(clock),
-        refuse(Refusal::Full, is_full(seen)),
-        never(),
-    ];
-    let answer = first_of(checks, place as u64);
+    );
+    let tried = or_else(tried, clock_full(clock));
+    let tried = or_else(tried, refuse(Refusal::Full, is_full(seen)));
     let left = sent_out(ask_body(round), h, site, clock, seen);
-    settle(
-        Decision {
-            answer: answer,
-            left: left,
-        },
-        seen,
-    )
+    settle(tried, place as u64, left, seen)
 }
 
 fn tell_body(round: Round) -> Body
@@ -105,25 +97,18 @@ pub fn tell(h: u16, site: u8, place: usize, seen: Seen) -> Decision
     let phase = round.phase;
     let clock = s.clock + 1;
     let answered = has_answered(round, (site % 8) as usize);
-    let checks = [
-        refuse(Refusal::BadField, bad_handle(h) | bad_site(site)),
-        no_passage(h, seen),
-        site_down(seen),
+    let tried = refuse(Refusal::BadField, bad_handle(h) | bad_site(site));
+    let tried = or_else(tried, no_passage(h, seen));
+    let tried = or_else(tried, site_down(seen));
+    let tried = or_else(
+        tried,
         refuse(
             Refusal::WrongState,
             !is_phase_two(phase) | !answered | (site == p.home),
         ),
-        clock_full(clock),
-        refuse(Refusal::Full, is_full(seen)),
-        never(),
-    ];
-    let answer = first_of(checks, place as u64);
+    );
+    let tried = or_else(tried, clock_full(clock));
+    let tried = or_else(tried, refuse(Refusal::Full, is_full(seen)));
     let left = sent_out(tell_body(round), h, site, clock, seen);
-    settle(
-        Decision {
-            answer: answer,
-            left: left,
-        },
-        seen,
-    )
+    settle(tried, place as u64, left, seen)
 }

@@ -2,8 +2,7 @@
 // Each equals its definition in rules' specs/Stations.antt: the checks in the order of the refusal table, then the records that are left.
 use checks::bad_site;
 use checks::clock_full;
-use checks::first_of;
-use checks::never;
+use checks::or_else;
 use checks::refuse;
 use checks::settle;
 use checks::site_down;
@@ -16,6 +15,7 @@ use parts::visits::no_visit;
 use rules::answers::Decision;
 use rules::answers::Refusal;
 use rules::answers::Seen;
+use rules::limits::TICK_MOST;
 use rules::tables::Passage;
 ghost use mathlib.Core.Path.{_≡_};
 ghost use Rattle.rules.specs.Sane.{Sane};
@@ -28,24 +28,14 @@ pub fn tick(site: u8, n: u32, seen: Seen) -> Decision
 {
     let s = seen.site;
     let clock = s.clock + n as u64;
-    let checks = [
-        refuse(Refusal::BadField, bad_site(site) | (n == 0) | (1000000 < n)),
-        site_down(seen),
-        clock_full(clock),
-        never(),
-        never(),
-        never(),
-        never(),
-    ];
-    let answer = first_of(checks, clock);
+    let tried = refuse(
+        Refusal::BadField,
+        bad_site(site) | (n == 0) | (TICK_MOST < n),
+    );
+    let tried = or_else(tried, site_down(seen));
+    let tried = or_else(tried, clock_full(clock));
     let left = left_site(seen, clock_to(s, clock));
-    settle(
-        Decision {
-            answer: answer,
-            left: left,
-        },
-        seen,
-    )
+    settle(tried, clock, left, seen)
 }
 
 // 13. sweep: the clock moves; then each slot of the site is swept.
@@ -55,24 +45,11 @@ pub fn sweep(site: u8, seen: Seen) -> Decision
 {
     let s = seen.site;
     let clock = s.clock + 1;
-    let checks = [
-        refuse(Refusal::BadField, bad_site(site)),
-        site_down(seen),
-        clock_full(clock),
-        never(),
-        never(),
-        never(),
-        never(),
-    ];
-    let answer = first_of(checks, 0);
+    let tried = refuse(Refusal::BadField, bad_site(site));
+    let tried = or_else(tried, site_down(seen));
+    let tried = or_else(tried, clock_full(clock));
     let left = left_site(seen, clock_to(s, clock));
-    settle(
-        Decision {
-            answer: answer,
-            left: left,
-        },
-        seen,
-    )
+    settle(tried, 0, left, seen)
 }
 
 // Whether a slot's visit is swept: there, unprepared, and its release time has come.

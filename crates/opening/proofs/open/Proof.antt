@@ -1,17 +1,43 @@
--- `opening::open` meets its contract. What its callees ensure, put together, is the definition. Assumes nothing.
+-- `opening::open` meets its contract: its checks are tried in the order of the definition's list, and so it is settled as that says.
+use mathlib.Core.Path.{_≡_}
 use borrow.Author.Needs.{needs}
-use Rattle.rules.specs.Answers.{firstOf}
-use Rattle.rules.specs.Rounds.{openOf}
+use Rattle.rules.specs.Rounds.{openChecks, openOf}
+use Rattle.checks.specs.Order.{triedAll}
+use Rattle.checks.specs.OrderLaws.{settled-first}
 use Rattle.opening.proofs.open.Statement.{statement}
 use Rattle.opening.proofs.open.Tie as tie
 
 opened-requires : tie.Need-opened-requires
-unfolding openOf firstOf
-opened-requires c κs = c .before .before .before .before .before .before .before .before .before .before .before .before .before .before .pre
+opened-requires c κs = c .before .before .before .before .before .before .before .before .before .before .before .before .before .before .before .before .before .before .before .pre
 
 returns : tie.Need-returns
-unfolding openOf firstOf
-returns c = rw (c .settle .ensures, c .before .opened .ensures, c .before .before .first-of .ensures, c .before .before .before .refuse3 .ensures, c .before .before .before .before .before .clock-full .ensures, c .before .before .before .before .before .before .visit-missing .ensures, c .before .before .before .before .before .before .before .refuse2 .ensures, c .before .before .before .before .before .before .before .before .site-down .ensures, c .before .before .before .before .before .before .before .before .before .no-passage .ensures, c .before .before .before .before .before .before .before .before .before .before .refuse .ensures)
+unfolding openOf
+returns c =
+    let room = c .before .before in
+    let clock = room .before .before .before in
+    let there = clock .before .before in
+    let state = there .before .before in
+    let up = state .before .before in
+    let found = up .before .before in
+    let fields = found .before .before in
+    let args = fields .before .before .before .before .before .before .args in
+    let tried : room .or-else6 .result ≡ triedAll (openChecks (args .h) (args .bad) (args .wrong) (args .seen)) =
+    rw (
+      room .or-else6 .ensures,
+      room .before .refuse3 .ensures,
+      clock .or-else5 .ensures,
+      clock .before .clock-full .ensures,
+      there .or-else4 .ensures,
+      there .before .visit-missing .ensures,
+      state .or-else3 .ensures,
+      state .before .refuse2 .ensures,
+      up .or-else2 .ensures,
+      up .before .site-down .ensures,
+      found .or-else .ensures,
+      found .before .no-passage .ensures,
+      fields .refuse .ensures,
+    ) in
+    rw (c .settle .ensures, c .before .opened .ensures, tried) (settled-first _ _ _ _ _)
 
 pub open-spec : {M : Type 1} → statement M
 open-spec =
@@ -26,8 +52,13 @@ open-spec =
     (λ c κs. search needs)
     (λ c κs. search needs)
     (λ c κs. search needs)
-    (λ c. search needs)
+    (λ c κs. search needs)
+    (λ c κs. search needs)
+    (λ c κs. search needs)
+    (λ c κs. search needs)
+    (λ c κs. search needs)
     (λ c κs. search needs)
     opened-requires
+    (λ c. search needs)
     (λ c κs. search needs)
     returns)

@@ -1,13 +1,47 @@
--- `rounds::tell` meets its contract. What its callees ensure, put together, is the definition. Assumes nothing.
+-- `rounds::tell` meets its contract: its checks are tried in the order of the definition's list, and so it is settled as that says.
+use mathlib.Core.Path.{_≡_}
 use borrow.Author.Needs.{needs}
-use Rattle.rules.specs.Answers.{firstOf}
-use Rattle.rules.specs.Rounds.{tellOf}
+use Rattle.rules.specs.Rounds.{tellChecks, tellOf}
+use Rattle.checks.specs.Order.{triedAll}
+use Rattle.checks.specs.OrderLaws.{settled-first}
 use Rattle.rounds.proofs.tell.Statement.{statement}
 use Rattle.rounds.proofs.tell.Tie as tie
 
 returns : tie.Need-returns
-unfolding tellOf firstOf
-returns c = simp (c .settle .ensures, c .before .sent-out .ensures, c .before .before .tell-body .ensures, c .before .before .before .first-of .ensures, c .before .before .before .before .never .ensures, c .before .before .before .before .before .refuse3 .ensures, c .before .before .before .before .before .before .is-full .ensures, c .before .before .before .before .before .before .before .clock-full .ensures, c .before .before .before .before .before .before .before .before .refuse2 .ensures, c .before .before .before .before .before .before .before .before .before .before .is-phase-two .ensures, c .before .before .before .before .before .before .before .before .before .before .before .site-down .ensures, c .before .before .before .before .before .before .before .before .before .before .before .before .no-passage .ensures, c .before .before .before .before .before .before .before .before .before .before .before .before .before .refuse .ensures, c .before .before .before .before .before .before .before .before .before .before .before .before .before .before .bad-site .ensures, c .before .before .before .before .before .before .before .before .before .before .before .before .before .before .before .bad-handle .ensures, c .before .before .before .before .before .before .before .before .before .before .before .before .before .before .before .before .has-answered .ensures)
+unfolding tellOf
+returns c =
+    let room = c .before .before .before in
+    let clock = room .before .before .before in
+    let state = clock .before .before in
+    let up = state .before .before .before .before in
+    let found = up .before .before in
+    let fields = found .before .before in
+    let args = fields .before .before .before .before .before .before .before .before .args in
+    let tried : room .or-else5 .result ≡ triedAll (tellChecks (args .h) (args .site) (args .seen)) =
+    rw (
+      room .or-else5 .ensures,
+      room .before .refuse3 .ensures,
+      room .before .before .is-full .ensures,
+      clock .or-else4 .ensures,
+      clock .before .clock-full .ensures,
+      state .or-else3 .ensures,
+      state .before .refuse2 .ensures,
+      state .before .before .before .is-phase-two .ensures,
+      up .or-else2 .ensures,
+      up .before .site-down .ensures,
+      found .or-else .ensures,
+      found .before .no-passage .ensures,
+      fields .refuse .ensures,
+      fields .before .bad-site .ensures,
+      fields .before .before .bad-handle .ensures,
+      fields .before .before .before .has-answered .ensures,
+    ) in
+    rw (
+      c .settle .ensures,
+      c .before .sent-out .ensures,
+      c .before .before .tell-body .ensures,
+      tried,
+    ) (settled-first _ _ _ _ _)
 
 pub tell-spec : {M : Type 1} → statement M
 tell-spec =
@@ -15,6 +49,9 @@ tell-spec =
     (tie.spec
     (λ c. search needs)
     (λ c. search needs)
+    (λ c κs. search needs)
+    (λ c κs. search needs)
+    (λ c κs. search needs)
     (λ c κs. search needs)
     (λ c κs. search needs)
     (λ c κs. search needs)

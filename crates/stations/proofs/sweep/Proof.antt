@@ -1,22 +1,40 @@
--- `stations::sweep` meets its contract. What its callees ensure, put together, is the definition. Assumes nothing.
+-- `stations::sweep` meets its contract: its checks are tried in the order of the definition's list, and so it is settled as that says.
+use mathlib.Core.Path.{_≡_}
 use borrow.Author.Needs.{needs}
-use Rattle.rules.specs.Answers.{firstOf}
-use Rattle.rules.specs.Stations.{sweepOf}
+use Rattle.rules.specs.Stations.{sweepChecks, sweepOf}
+use Rattle.checks.specs.Order.{triedAll}
+use Rattle.checks.specs.OrderLaws.{settled-first}
 use Rattle.stations.proofs.sweep.Statement.{statement}
 use Rattle.stations.proofs.sweep.Tie as tie
 
 returns : tie.Need-returns
-unfolding sweepOf firstOf
-returns c = rw (c .settle .ensures, c .before .left-site .ensures, c .before .before .clock-to .ensures, c .before .before .before .first-of .ensures, c .before .before .before .before .never4 .ensures, c .before .before .before .before .before .never3 .ensures, c .before .before .before .before .before .before .never2 .ensures, c .before .before .before .before .before .before .before .never .ensures, c .before .before .before .before .before .before .before .before .clock-full .ensures, c .before .before .before .before .before .before .before .before .before .site-down .ensures, c .before .before .before .before .before .before .before .before .before .before .refuse .ensures, c .before .before .before .before .before .before .before .before .before .before .before .bad-site .ensures)
+unfolding sweepOf
+returns c =
+    let clock = c .before .before .before in
+    let up = clock .before .before in
+    let fields = up .before .before in
+    let args = fields .before .before .before .before .args in
+    let tried : clock .or-else2 .result ≡ triedAll (sweepChecks (args .site) (args .seen)) =
+    rw (
+      clock .or-else2 .ensures,
+      clock .before .clock-full .ensures,
+      up .or-else .ensures,
+      up .before .site-down .ensures,
+      fields .refuse .ensures,
+      fields .before .bad-site .ensures,
+    ) in
+    rw (
+      c .settle .ensures,
+      c .before .left-site .ensures,
+      c .before .before .clock-to .ensures,
+      tried,
+    ) (settled-first _ _ _ _ _)
 
 pub sweep-spec : {M : Type 1} → statement M
 sweep-spec =
     tie.close
     (tie.spec
     (λ c. search needs)
-    (λ c κs. search needs)
-    (λ c κs. search needs)
-    (λ c κs. search needs)
     (λ c κs. search needs)
     (λ c κs. search needs)
     (λ c κs. search needs)

@@ -1,17 +1,52 @@
--- `calls::delivered::deliver_call` meets its contract. What its callees ensure, put together, is the definition. Assumes nothing.
+-- `calls::delivered::deliver_call` meets its contract: its checks are tried in the order of the definition's list, and so it is settled as that says.
+use mathlib.Core.Path.{_≡_}
 use borrow.Author.Needs.{needs}
-use Rattle.rules.specs.Answers.{firstOf}
-use Rattle.rules.specs.Calls.{deliverCallOf}
+use Rattle.rules.specs.Calls.{callChecks, deliverCallOf}
+use Rattle.checks.specs.Order.{triedAll}
+use Rattle.checks.specs.OrderLaws.{settled-first}
 use Rattle.calls.proofs.delivered.deliver_call.Statement.{statement}
 use Rattle.calls.proofs.delivered.deliver_call.Tie as tie
 
 called-requires : tie.Need-called-requires
-unfolding deliverCallOf firstOf
-called-requires c κs = c .before .before .before .before .before .before .before .before .before .before .before .before .before .before .before .before .before .before .pre
+called-requires c κs = c .before .before .before .before .before .before .before .before .before .before .before .before .before .before .before .before .before .before .before .before .pre
 
 returns : tie.Need-returns
-unfolding deliverCallOf firstOf
-returns c = rw (c .settle .ensures, c .before .called .ensures, c .before .before .first-of .ensures, c .before .before .before .before .never .ensures, c .before .before .before .before .before .refuse4 .ensures, c .before .before .before .before .before .before .before .refuse3 .ensures, c .before .before .before .before .before .before .before .before .is-held-by-other .ensures, c .before .before .before .before .before .before .before .before .before .mail-slot .ensures, c .before .before .before .before .before .before .before .before .before .before .refuse2 .ensures, c .before .before .before .before .before .before .before .before .before .before .before .before .before .clock-full .ensures, c .before .before .before .before .before .before .before .before .before .before .before .before .before .before .site-down .ensures, c .before .before .before .before .before .before .before .before .before .before .before .before .before .before .before .refuse .ensures, c .before .before .before .before .before .before .before .before .before .before .before .before .before .before .before .before .bad-message .ensures, c .before .before .before .before .before .before .before .before .before .before .before .before .before .before .before .before .before .called-object .ensures, c .before .before .before .before .before .before .before .before .before .before .before .before .before .before .before .before .before .before .called-visit .ensures, c .before .before .before .before .before .before .before .before .before .before .before .before .before .before .before .before .before .before .before .mail-clock .ensures)
+unfolding deliverCallOf
+returns c =
+    let room = c .before .before .before in
+    let unheld = room .before .before .before in
+    let early = unheld .before .before .before .before in
+    let clock = early .before .before .before .before in
+    let up = clock .before .before in
+    let fields = up .before .before in
+    let args = fields .before .before .before .before .before .args in
+    let tried : room .or-else5 .result ≡ triedAll (callChecks (args .m) (args .call) (args .seen)) =
+    rw (
+      room .or-else5 .ensures,
+      room .before .refuse4 .ensures,
+      unheld .or-else4 .ensures,
+      unheld .before .refuse3 .ensures,
+      unheld .before .before .is-held-by-other .ensures,
+      unheld .before .before .before .mail-slot .ensures,
+      early .or-else3 .ensures,
+      early .before .refuse2 .ensures,
+      clock .or-else2 .ensures,
+      clock .before .clock-full .ensures,
+      up .or-else .ensures,
+      up .before .site-down .ensures,
+      fields .refuse .ensures,
+      fields .before .bad-message .ensures,
+      fields .before .before .called-object .ensures,
+      fields .before .before .before .called-visit .ensures,
+      fields .before .before .before .before .mail-clock .ensures,
+    ) in
+    rw (
+      c .settle .ensures,
+      c .before .before .called .ensures,
+      tried,
+      fields .before .before .called-object .ensures,
+      fields .before .before .before .before .mail-clock .ensures,
+    ) (settled-first _ _ _ _ _)
 
 pub deliver-call-spec : {M : Type 1} → statement M
 deliver-call-spec =
@@ -24,15 +59,18 @@ deliver-call-spec =
     (λ c κs. search needs)
     (λ c κs. search needs)
     (λ c κs. search needs)
-    (λ c. search needs)
-    (λ c κs. search needs)
-    (λ c κs. search needs)
-    (λ c κs. search needs)
-    (λ c κs. search needs)
     (λ c κs. search needs)
     (λ c κs. search needs)
     (λ c. search needs)
+    (λ c κs. search needs)
+    (λ c κs. search needs)
+    (λ c κs. search needs)
+    (λ c κs. search needs)
+    (λ c κs. search needs)
+    (λ c κs. search needs)
+    (λ c κs. search needs)
     (λ c κs. search needs)
     called-requires
+    (λ c. search needs)
     (λ c κs. search needs)
     returns)

@@ -1,17 +1,51 @@
--- `calls::invoked::invoke` meets its contract. What its callees ensure, put together, is the definition. Assumes nothing.
+-- `calls::invoked::invoke` meets its contract: its checks are tried in the order of the definition's list, and so it is settled as that says.
+use mathlib.Core.Path.{_≡_}
 use borrow.Author.Needs.{needs}
-use Rattle.rules.specs.Answers.{firstOf}
-use Rattle.rules.specs.Calls.{invokeOf}
+use Rattle.rules.specs.Calls.{invokeChecks, invokeOf}
+use Rattle.checks.specs.Order.{triedAll}
+use Rattle.checks.specs.OrderLaws.{settled-first}
 use Rattle.calls.proofs.invoked.invoke.Statement.{statement}
 use Rattle.calls.proofs.invoked.invoke.Tie as tie
 
 invoked-requires : tie.Need-invoked-requires
-unfolding invokeOf firstOf
-invoked-requires c κs = c .before .before .before .before .before .before .before .before .before .before .before .before .before .before .before .before .before .pre
+invoked-requires c κs = c .before .before .before .before .before .before .before .before .before .before .before .before .before .before .before .before .before .before .before .before .before .before .pre
 
 returns : tie.Need-returns
-unfolding invokeOf firstOf
-returns c = simp (c .settle .ensures, c .before .invoked .ensures, c .before .before .call-of .ensures, c .before .before .before .first-of .ensures, c .before .before .before .before .refuse3 .ensures, c .before .before .before .before .before .is-sent-out .ensures, c .before .before .before .before .before .before .is-full .ensures, c .before .before .before .before .before .before .before .refuse2 .ensures, c .before .before .before .before .before .before .before .before .before .before .clock-full .ensures, c .before .before .before .before .before .before .before .before .before .before .before .visit-missing .ensures, c .before .before .before .before .before .before .before .before .before .before .before .before .site-down .ensures, c .before .before .before .before .before .before .before .before .before .before .before .before .before .no-passage .ensures, c .before .before .before .before .before .before .before .before .before .before .before .before .before .before .refuse .ensures, c .before .before .before .before .before .before .before .before .before .before .before .before .before .before .before .bad-call .ensures)
+unfolding invokeOf
+returns c =
+    let room = c .before .before .before in
+    let early = room .before .before .before .before in
+    let clock = early .before .before .before .before in
+    let there = clock .before .before in
+    let up = there .before .before in
+    let found = up .before .before in
+    let fields = found .before .before in
+    let args = fields .before .before .before .before .before .args in
+    let tried : room .or-else6 .result ≡ triedAll (invokeChecks (args .h) (args .site) (args .write) (args .object) (args .value) (args .seen)) =
+    rw (
+      room .or-else6 .ensures,
+      room .before .refuse3 .ensures,
+      room .before .before .is-sent-out .ensures,
+      room .before .before .before .is-full .ensures,
+      early .or-else5 .ensures,
+      early .before .refuse2 .ensures,
+      clock .or-else4 .ensures,
+      clock .before .clock-full .ensures,
+      there .or-else3 .ensures,
+      there .before .visit-missing .ensures,
+      up .or-else2 .ensures,
+      up .before .site-down .ensures,
+      found .or-else .ensures,
+      found .before .no-passage .ensures,
+      fields .refuse .ensures,
+      fields .before .bad-call .ensures,
+    ) in
+    rw (
+      c .settle .ensures,
+      c .before .invoked .ensures,
+      c .before .before .call-of .ensures,
+      tried,
+    ) (settled-first _ _ _ _ _)
 
 pub invoke-spec : {M : Type 1} → statement M
 invoke-spec =
@@ -24,7 +58,12 @@ invoke-spec =
     (λ c κs. search needs)
     (λ c κs. search needs)
     (λ c κs. search needs)
+    (λ c κs. search needs)
+    (λ c κs. search needs)
+    (λ c κs. search needs)
+    (λ c κs. search needs)
     (λ c. search needs)
+    (λ c κs. search needs)
     (λ c κs. search needs)
     (λ c κs. search needs)
     (λ c κs. search needs)

@@ -1,23 +1,44 @@
--- `deliveries::delivered::deliver_answer` meets its contract. What its callees ensure, put together, is the definition. Assumes nothing.
+-- `deliveries::delivered::deliver_answer` meets its contract: its checks are tried in the order of the definition's list, and so it is settled as that says.
+use mathlib.Core.Path.{_≡_}
 use borrow.Author.Needs.{needs}
-use Rattle.rules.specs.Answers.{firstOf}
-use Rattle.rules.specs.Calls.{deliverAnswerOf}
+use Rattle.rules.specs.Calls.{answerChecks, deliverAnswerOf}
+use Rattle.checks.specs.Order.{triedAll}
+use Rattle.checks.specs.OrderLaws.{settled-first}
 use Rattle.deliveries.proofs.delivered.deliver_answer.Statement.{statement}
 use Rattle.deliveries.proofs.delivered.deliver_answer.Tie as tie
 
 answered-at-requires : tie.Need-answered-at-requires
-unfolding deliverAnswerOf firstOf
-answered-at-requires c κs = c .before .before .before .before .before .before .before .before .before .before .before .before .before .before .before .before .before .pre
+answered-at-requires c κs = c .before .before .before .before .before .before .before .before .before .before .before .before .before .before .before .before .pre
 
 returns : tie.Need-returns
-unfolding deliverAnswerOf firstOf
-returns c = rw (c .settle .ensures, c .before .answered-at .ensures, c .before .before .first-of .ensures, c .before .before .before .never3 .ensures, c .before .before .before .before .never2 .ensures, c .before .before .before .before .before .never .ensures, c .before .before .before .before .before .before .refuse2 .ensures, c .before .before .before .before .before .before .before .before .is-phase-one .ensures, c .before .before .before .before .before .before .before .before .before .is-free .ensures, c .before .before .before .before .before .before .before .before .before .before .clock-full .ensures, c .before .before .before .before .before .before .before .before .before .before .before .site-down .ensures, c .before .before .before .before .before .before .before .before .before .before .before .before .refuse .ensures, c .before .before .before .before .before .before .before .before .before .before .before .before .before .bad-message .ensures, c .before .before .before .before .before .before .before .before .before .before .before .before .before .before .before .before .before .before .mail-clock .ensures)
+unfolding deliverAnswerOf
+returns c =
+    let round = c .before .before in
+    let clock = round .before .before .before .before .before in
+    let up = clock .before .before in
+    let fields = up .before .before in
+    let args = fields .before .before .before .before .before .before .before .args in
+    let tried : round .or-else3 .result ≡ triedAll (answerChecks (args .m) (args .number) (args .seen)) =
+    rw (
+      round .or-else3 .ensures,
+      round .before .refuse2 .ensures,
+      round .before .before .before .is-phase-one .ensures,
+      round .before .before .before .before .is-free .ensures,
+      clock .or-else2 .ensures,
+      clock .before .clock-full .ensures,
+      up .or-else .ensures,
+      up .before .site-down .ensures,
+      fields .refuse .ensures,
+      fields .before .bad-message .ensures,
+      fields .before .before .before .before .before .before .mail-clock .ensures,
+    ) in
+    let mail-clock = fields .before .before .before .before .before .before .mail-clock in
+    rw (c .settle .ensures, c .before .answered-at .ensures, tried, mail-clock .ensures) (settled-first _ _ _ _ _)
 
 pub deliver-answer-spec : {M : Type 1} → statement M
 deliver-answer-spec =
     tie.close
     (tie.spec
-    (λ c κs. search needs)
     (λ c κs. search needs)
     (λ c κs. search needs)
     (λ c κs. search needs)

@@ -1,2 +1,0 @@
--- Laws that the proofs of checks cite. Assumes nothing.
-pub mod Order
