@@ -41,7 +41,7 @@ pub(crate) fn calls_sent(sheet: &mut [u8; 65537]) -> Case
     ensures { λ r. ⌜ r .length ≤ 65537 ⌝ }
 {
     say(b"call 1,000 and 1,001 sent to one site, last lines");
-    put_step(sheet, 0, begin(0, 0, 1000000000, 1000000000));
+    put_step(sheet, 0, begin(0, 0, 10000, 20000));
     put_thousand(sheet, 1, read(0, 0, 4), drop(0));
     put_step(sheet, 2001, read(0, 0, 4));
     put_step(sheet, 2002, read(0, 0, 8));
@@ -53,7 +53,7 @@ pub(crate) fn calls_received(sheet: &mut [u8; 65537]) -> Case
     ensures { λ r. ⌜ r .length ≤ 65537 ⌝ }
 {
     say(b"call 1,000 and 1,001 received at one site, last lines");
-    put_step(sheet, 0, begin(0, 0, 1000000000, 1000000000));
+    put_step(sheet, 0, begin(0, 0, 10000, 20000));
     put_step(sheet, 1, read(0, 0, 4));
     put_step(sheet, 2, deliver(0));
     put_thousand(sheet, 3, write(8, 7), deliver(0));

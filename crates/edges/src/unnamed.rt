@@ -29,7 +29,7 @@ fn put_closed_round(sheet: &mut [u8; 65537]) {
 
 // Nineteen records, after which each code has a step that is accepted.
 fn put_prelude(sheet: &mut [u8; 65537]) {
-    put_step(sheet, 0, begin(0, 0, 1000, 2000));
+    put_step(sheet, 0, begin(0, 5, 2, 12));
     put_step(sheet, 1, begin(0, 1, 1000, 2000));
     put_step(sheet, 2, Step::Abort { handle: 1 });
     put_step(sheet, 3, begin(0, 2, 1000, 2000));
@@ -38,7 +38,7 @@ fn put_prelude(sheet: &mut [u8; 65537]) {
     put_step(sheet, 13, begin(0, 4, 1000, 2000));
     put_step(sheet, 14, Step::Prepare { handle: 4 });
     put_step(sheet, 15, Step::Close { handle: 4 });
-    put_step(sheet, 16, begin(6, 5, 2, 2));
+    put_step(sheet, 16, begin(0, 0, 1000, 2000));
     put_step(sheet, 17, read(0, 0, 8));
     put_step(sheet, 18, Step::Crash { site: 7 });
 }
@@ -66,7 +66,7 @@ fn accepted_step(code: usize) -> Step {
         10 => Step::Abort { handle: 0 },
         11 => deliver(0),
         12 => drop(0),
-        13 => Step::Sweep { site: 6 },
+        13 => Step::Sweep { site: 0 },
         14 => Step::Crash { site: 4 },
         15 => Step::Recover { site: 7 },
         _ => Step::Retire { handle: 4 },
