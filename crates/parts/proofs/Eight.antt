@@ -1,19 +1,18 @@
 -- Laws of eight places and eight bits: what stands at each place, a bit within a byte, the ones of a byte. Assumes nothing.
 use Prim.Native.Nat.{ℕ, zero, suc, _+_, _*_, _/_, _%_, _^_, _≤_, _<_, zero-le}
 use native.Mathlib.Omega.{arith}
-use native.Mathlib.Nat.{not-suc-le-zero, le-of-suc-le-suc, mod-eq-of-lt, one-mul}
-use mathlib.Core.Path.{_≡_, refl, sym, ap, ap₂, _∙_}
-use mathlib.Core.Bool.{Bool, true, false, cond, _&&_}
+use mathlib.Core.Path.{_≡_, refl, ap, _∙_}
+use mathlib.Core.Bool.{Bool, true, _&&_}
 use mathlib.Core.List.{List, [], _∷_}
 use lib.Count.{ones, onesIn}
-use lib.Dec.{eqb, ltb}
-use lib.ListN.{length, getD, replicate}
-use borrow.Author.Tests.{eqb-true, ltb-true}
+use lib.Dec.{eqb}
+use lib.ListN.{getD}
+use borrow.Author.Tests.{eqb-true}
 use Rattle.rules.specs.declared.tables.Round.{Round}
 use Rattle.rules.specs.Loops.{oneIf, everyUpTo, sumUpTo}
 use Rattle.rules.specs.LoopsLaws.{every-at, every-same}
-use Rattle.rules.specs.Parts.{hasAnswered, sentTo, receivedAt, isClosed, answerCount}
-use Rattle.parts.specs.Balances.{balanceOf, balancesNext, balancesUpTo, metUpTo}
+use Rattle.rules.specs.Parts.{sentTo, receivedAt, isClosed}
+use Rattle.parts.specs.Balances.{balanceOf, balancesUpTo, metUpTo}
 
 -- a list of eight made by f has f d at d
 pub at-eight : (f : ℕ → ℕ) (d : ℕ) → d < 8 → getD (f 0 ∷ f 1 ∷ f 2 ∷ f 3 ∷ f 4 ∷ f 5 ∷ f 6 ∷ f 7 ∷ []) d 0 ≡ f d

@@ -6,10 +6,10 @@ use rules::tables::Phase;
 use rules::tables::Round;
 ghost use Prim.Native.Nat.{ℕ, _+_, _*_, _≤_, _<_};
 ghost use mathlib.Core.Path.{_≡_};
-ghost use lib.ListN.{length, getD};
+ghost use lib.ListN.{getD};
 ghost use Rattle.rules.specs.Tables.{noFigures, noRound};
-ghost use Rattle.rules.specs.Parts.{hasAnswered, withAnswer, openedRound, ifAnswered, receivedAt, isClosed, largestQuiesce, answerCount};
-ghost use Rattle.parts.specs.Balances.{balanceOf, balancesNext, balancesUpTo, metUpTo, quiesceOf};
+ghost use Rattle.rules.specs.Parts.{hasAnswered, withAnswer, openedRound, receivedAt, isClosed, largestQuiesce, answerCount};
+ghost use Rattle.parts.specs.Balances.{balanceOf, balancesNext, metUpTo, quiesceOf};
 
 // Bit s of the answered mask.
 pub fn has_answered(round: Round, site: usize) -> bool

@@ -22,11 +22,11 @@ use rules::tables::Site;
 use rules::tables::Tables;
 use rules::tables::Told;
 use rules::tables::Visit;
-ghost use Prim.Native.Nat.{ℕ, _≤_, _<_};
+ghost use Prim.Native.Nat.{_<_};
 ghost use mathlib.Core.Path.{_≡_};
 ghost use lib.ListN.{getD};
 ghost use Rattle.rules.specs.Loops.{everyUpTo};
-ghost use Rattle.rules.specs.Tables.{siteAt, objectAt, passageAt, messageAt, pastSite, pastObject, pastPassage, pastVisit, pastMessage, pastFigures};
+ghost use Rattle.rules.specs.Tables.{pastSite, pastObject, pastPassage, pastVisit, pastMessage, pastFigures};
 ghost use Rattle.rules.specs.Ranges.{siteInRange, holderInRange, objectInRange, countsInRange, figuresInRange, kindInRange, phaseFits, roundInRange, passageInRange, visitInRange, callInRange, askedInRange, toldInRange, bodyInRange, messageInRange, inRange};
 
 fn site_in_range(s: Site) -> bool

@@ -1,7 +1,7 @@
 -- Steps of messages: 3 invoke, 11 deliver, 12 drop. Assumes nothing.
 -- xChecks: the refusals in their order. xDone: the answer and the records. xOf: the same, where a refusal keeps what was seen.
-use Prim.Native.Nat.{ℕ, _+_, _%_}
-use mathlib.Core.Bool.{Bool, true, false, cond, not, _&&_, _||_}
+use Prim.Native.Nat.{ℕ, _%_}
+use mathlib.Core.Bool.{Bool, cond, not, _&&_, _||_}
 use mathlib.Core.List.{List, [], _∷_}
 use lib.Dec.{leb, ltb, eqb}
 use lib.ListN.{getD, set}
@@ -9,7 +9,7 @@ use Rattle.rules.specs.Types.{Object, Figures, Status, Passage, Visit, C
 use Rattle.rules.specs.Limits.{widthMost, countMost}
 use Rattle.rules.specs.Tables.{objectSite, slotOf, pastObject, noMessage}
 use Rattle.rules.specs.Answers.{refuse, firstOf, settleOf}
-use Rattle.rules.specs.Parts.{clockTo, nextClock, deliveryClock, isFree, isPhaseOne, withStatus, withRound, whereThere, newVisit, countSent, countReceived, isHeldByOther, taken, operated, withAnswer, askedVisit, askedStatus, toldVisit, toldObjects, toldStatus, asksLife, tellsLife, plainMessage, answerMessage}
+use Rattle.rules.specs.Parts.{clockTo, nextClock, deliveryClock, isFree, isPhaseOne, withStatus, withRound, newVisit, countSent, countReceived, isHeldByOther, taken, operated, withAnswer, askedVisit, askedStatus, toldVisit, toldObjects, toldStatus, asksLife, tellsLife, plainMessage, answerMessage}
 use Rattle.rules.specs.Checks.{badSite, badHandle, badMessage, noPassage, noMail, siteDown, visitMissing, clockFull, isFull}
 
 -- ---- 3. invoke h, a=site, b=0 read or 1 write, c=object, u=value (0 for read). Value: message slot.

@@ -1,7 +1,7 @@
 -- Conditions that several lines of the refusal table share, each read off what the step saw. Assumes nothing.
 use Prim.Native.Nat.{ℕ}
-use mathlib.Core.Bool.{Bool, cond, not, _&&_, _||_}
-use lib.Dec.{leb, ltb, eqb}
+use mathlib.Core.Bool.{Bool, not, _||_}
+use lib.Dec.{ltb, eqb}
 use Rattle.rules.specs.Types.{Refusal, Check, Seen}
 use Rattle.rules.specs.Limits.{clockMost, timeMost, handleMost}
 use Rattle.rules.specs.Tables.{generationOf}

@@ -19,6 +19,7 @@ pub mod StoredLaws
 pub mod Sane
 pub mod Record
 pub mod RefusedLaws
+pub mod TwentyLaws
 pub mod RecordLaws
 pub mod RangesLaws
 pub mod RangesFits

@@ -1,9 +1,9 @@
 -- The listing: what passrun prints for a sheet, byte for byte. Assumes nothing.
 -- "prints for each record: its place from 1, refusal number, value, one space between, each line ended by a newline"
 use Prim.Native.Nat.{ℕ, zero, suc, _+_, _/_, _%_}
-use mathlib.Core.Bool.{Bool, true, false, cond}
+use mathlib.Core.Bool.{cond}
 use mathlib.Core.List.{List, [], _∷_, _++_}
-use lib.Dec.{leb, ltb, eqb}
+use lib.Dec.{ltb}
 use lib.ListN.{length}
 use Rattle.rules.specs.Types.{Tables, Answer, Outcome, SheetAnswer}
 use Rattle.rules.specs.Tables.{start}

@@ -1,14 +1,13 @@
 -- Laws of the loops up to n: what a loop says of each index, and when two loops agree. Assumes nothing.
-use Prim.Native.Nat.{ℕ, zero, suc, _+_, _*_, _≤_, _<_, max}
+use Prim.Native.Nat.{ℕ, zero, suc, _+_, _*_, _≤_, _<_}
 use native.Mathlib.Omega.{arith}
 use native.Mathlib.Nat.{not-suc-le-zero, suc-mul}
-use native.Mathlib.Numerals.{add-one}
-use mathlib.Core.Path.{_≡_, refl, sym, ap, ap₂, _∙_, subst}
+use mathlib.Core.Path.{_≡_, refl, sym, ap₂, subst}
 use mathlib.Core.Logic.{⊎-elim, _⊎_, inl, inr}
-use mathlib.Core.Bool.{Bool, true, false, cond, not, _&&_, _||_, true≢false, false≢true}
+use mathlib.Core.Bool.{Bool, true, false, not, _&&_, _||_, true≢false, false≢true}
 use lib.Dec.{eqb, ltb}
-use borrow.Author.Tests.{ltb-true, ltb-false, eqb-true, eqb-false, eq-eqb, ne-eqb}
-use Rattle.rules.specs.Loops.{oneIf, everyUpTo, someUpTo, sumUpTo, mostUpTo, firstNext, firstUpTo}
+use borrow.Author.Tests.{ltb-true, ltb-false, eqb-false}
+use Rattle.rules.specs.Loops.{everyUpTo, someUpTo, sumUpTo, mostUpTo, firstNext, firstUpTo}
 
 -- ---- truth of tests
 

@@ -1,6 +1,6 @@
 -- A step on the tables: look at the few records that it names, decide from them, store what is left; then number 20 before all. Assumes nothing.
 use Prim.Native.Nat.{ℕ, zero, suc, _+_, _%_, min}
-use mathlib.Core.Bool.{Bool, true, false, cond, _&&_, _||_, not}
+use mathlib.Core.Bool.{Bool, cond, _&&_, _||_, not}
 use lib.Dec.{eqb}
 use Rattle.rules.specs.Types.{Passage, Body, Message, Tables, Step, Refusal, Answer, MailAt, SlotAt, SiteAt, Trip, Look, Places, Seen, Decision, Outcome}
 use Rattle.rules.specs.Loops.{oneIf, someUpTo, firstUpTo}

@@ -1,13 +1,13 @@
 -- The small changes of single records that the rules are made of: clocks, visits, objects, rounds, passages, messages. Assumes nothing.
-use Prim.Native.Nat.{ℕ, _+_, _*_, _/_, _%_, _^_, min, max}
-use mathlib.Core.Bool.{Bool, true, false, cond, not, _&&_, _||_}
+use Prim.Native.Nat.{ℕ, _+_, _/_, _%_, _^_, min, max}
+use mathlib.Core.Bool.{Bool, true, false, cond, not}
 use mathlib.Core.List.{List, [], _∷_}
 use lib.Bits.{bitOr}
-use lib.Dec.{leb, ltb, eqb}
+use lib.Dec.{eqb}
 use lib.ListN.{getD, set, replicate}
 use Rattle.rules.specs.Types.{Site, Holder, Object, Figures, Kind, Phase, Round, Status, Passage, Visit, Call, Asked, Told, Body, Message}
 use Rattle.rules.specs.Loops.{oneIf, everyUpTo, sumUpTo, mostUpTo}
-use Rattle.rules.specs.Tables.{pastObject, pastFigures, noCounts, noFigures, noVisit, noMessage}
+use Rattle.rules.specs.Tables.{pastObject, pastFigures, noCounts, noFigures, noVisit}
 
 -- ---- clocks: "A step that is accepted at a site first moves its clock"
 

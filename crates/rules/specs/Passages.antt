@@ -1,9 +1,9 @@
 -- Steps of a passage's life: 2 begin, 10 abort, 16 retire. Assumes nothing.
 -- xChecks: the refusals in their order. xDone: the answer and the records. xOf: the same, where a refusal keeps what was seen.
 use Prim.Native.Nat.{ℕ, _+_, _%_}
-use mathlib.Core.Bool.{Bool, true, false, cond, not, _&&_, _||_}
+use mathlib.Core.Bool.{Bool, false, not, _||_}
 use mathlib.Core.List.{List, [], _∷_}
-use lib.Dec.{leb, ltb, eqb}
+use lib.Dec.{leb, ltb}
 use Rattle.rules.specs.Types.{Status, Passage, Refusal, Check, Seen, Decision}
 use Rattle.rules.specs.Tables.{handleOf, freeSlot, noRound}
 use Rattle.rules.specs.Answers.{refuse, firstOf, settleOf}

@@ -18,7 +18,7 @@ use Rattle.rules.specs.Ranges.{countsInRange, kindInRange, phaseFits, ro
 use Rattle.rules.specs.Answers.{isAccepted, firstOf, settleOf}
 use Rattle.rules.specs.AnswersLaws.{Fine, holdsOf, accepted-fine}
 use Rattle.rules.specs.Parts.{clockTo, nextClock, countSent, restored, eachOf, openedRound, askedOf, askedVisit}
-use Rattle.rules.specs.Checks.{badSite, badHandle, badTimes, clockFull, isFull}
+use Rattle.rules.specs.Checks.{badSite, badHandle, badTimes, isFull}
 use Rattle.rules.specs.Stations.{leftSite, tickOf, sweepOf, sweptSlot, crashOf, crashedSlot, recoverOf}
 use Rattle.rules.specs.Passages.{beginOf, abortOf, retireOf}
 use Rattle.rules.specs.Rounds.{openedVisit, openOf, refreshOf, terminateOf, prepareOf, sentOut, askOf, closeOf, tellOf}

@@ -1,9 +1,9 @@
 -- The record: 16 bytes to a step, a step to 16 bytes, by one table of which fields each step names. Assumes nothing.
 -- "The record has bytes code, a, b, c; handle h in two bytes; two zero bytes; u and v in four bytes each; all little-endian."
 use Prim.Native.Nat.{ℕ, _+_, _*_, _-_, _/_, _%_}
-use mathlib.Core.Bool.{Bool, true, false, cond, not, _&&_, _||_}
+use mathlib.Core.Bool.{Bool, cond, _&&_, _||_}
 use mathlib.Core.List.{List, [], _∷_, _++_}
-use lib.Dec.{leb, ltb, eqb}
+use lib.Dec.{leb, eqb}
 use lib.ListN.{getD}
 use Rattle.rules.specs.Types.{Step, Fields, Reading, Tables, Refusal, Answer, Outcome}
 use Rattle.rules.specs.Machine.{stepInRangeOf, unlessOutOfRange}

@@ -1,17 +1,17 @@
 -- Demand 1 of the definitions: a refused step or record leaves every table as it stood. Assumes nothing.
 use Prim.Native.Nat.{ℕ, zero, suc}
 use mathlib.Core.Path.{_≡_, refl, sym, ap, _∙_}
-use mathlib.Core.Logic.{⊎-elim, _⊎_, inl, inr}
-use mathlib.Core.Bool.{Bool, true, false, cond, true≢false, false≢true}
+use mathlib.Core.Logic.{⊎-elim, _⊎_}
+use mathlib.Core.Bool.{Bool, false, true≢false}
 use mathlib.Core.List.{List}
-use Rattle.rules.specs.Types.{Tables, Body, Step, Reading, Answer, Trip, Places, Seen, Decision, Outcome}
+use Rattle.rules.specs.Types.{Tables, Body, Step, Reading, Answer, Trip, Seen, Outcome}
 use Rattle.rules.specs.Ranges.{inRange}
-use Rattle.rules.specs.Answers.{isAccepted, answerValue, settleOf}
+use Rattle.rules.specs.Answers.{isAccepted, answerValue}
 use Rattle.rules.specs.AnswersLaws.{settle-refused}
 use Rattle.rules.specs.LoopsLaws.{either}
 use Rattle.rules.specs.Stations.{tickDone, tickOf, sweepDone, sweepOf, crashDone, crashOf, recoverDone, recoverOf}
 use Rattle.rules.specs.Passages.{beginDone, beginOf, abortDone, abortOf, retireDone, retireOf}
-use Rattle.rules.specs.Rounds.{openDone, openOf, refreshOf, terminateOf, prepareOf, askDone, askOf, closeDone, closeOf, tellDone, tellOf}
+use Rattle.rules.specs.Rounds.{openOf, refreshOf, terminateOf, prepareOf, askDone, askOf, closeDone, closeOf, tellDone, tellOf}
 use Rattle.rules.specs.Calls.{invokeDone, invokeOf, emptyDone, emptyOf, callDone, deliverCallOf, phaseOneDone, deliverPhaseOneOf, phaseTwoDone, deliverPhaseTwoOf, answerDone, deliverAnswerOf, deliverBodyOf, dropDone, dropOf}
 use Rattle.rules.specs.Machine.{lookOf, placesOf, seenOf, remains, decideOf, stored, headOf, countOne, sweepTurn, crashTurn, turnOf, turnsUpTo, turnCount, stepInRangeOf, stepOf}
 use Rattle.rules.specs.Record.{stepOfRecord, readingOf, recordInRangeOf, stepRecordOf}

@@ -1,14 +1,14 @@
 -- Steps of a round: 4 refresh, 5 terminate, 6 prepare, 7 ask, 8 close, 9 tell. Assumes nothing.
 -- xChecks: the refusals in their order. xDone: the answer and the records. xOf: the same, where a refusal keeps what was seen.
 use Prim.Native.Nat.{ℕ, _+_, _%_}
-use mathlib.Core.Bool.{Bool, true, false, cond, not, _&&_, _||_}
+use mathlib.Core.Bool.{Bool, cond, not, _||_}
 use mathlib.Core.List.{List, [], _∷_}
-use lib.Dec.{leb, ltb, eqb}
+use lib.Dec.{leb, eqb}
 use Rattle.rules.specs.Types.{Object, Kind, Phase, Round, Passage, Visit, Told, Body, Refusal, Check, Seen, Decision}
 use Rattle.rules.specs.Limits.{countMost}
 use Rattle.rules.specs.Tables.{slotOf}
 use Rattle.rules.specs.Answers.{refuse, firstOf, settleOf}
-use Rattle.rules.specs.Parts.{clockTo, nextClock, isActive, isRunning, isAborted, isPhaseOne, isPhaseTwo, withStatus, withRound, withPhase, whereThere, figuresOf, hasAnswered, withAnswer, openedRound, isClosed, largestQuiesce, answerCount, askedOf, toldOf, askedVisit, askedStatus, toldVisit, toldObjects, toldStatus, plainMessage}
+use Rattle.rules.specs.Parts.{clockTo, nextClock, isActive, isRunning, isAborted, isPhaseOne, isPhaseTwo, withPhase, whereThere, figuresOf, hasAnswered, withAnswer, openedRound, isClosed, largestQuiesce, answerCount, askedOf, toldOf, askedVisit, askedStatus, toldVisit, toldObjects, toldStatus, plainMessage}
 use Rattle.rules.specs.Checks.{badSite, badHandle, badTimes, noPassage, siteDown, visitMissing, clockFull, isFull}
 
 -- ---- 4. refresh h, u=Q, v=R. 5. terminate h. 6. prepare h.

@@ -2,7 +2,7 @@
 use Prim.Native.Nat.{ℕ}
 use mathlib.Core.Bool.{Bool, true, false, cond}
 use mathlib.Core.List.{List, [], _∷_, _++_}
-use Rattle.rules.specs.Types.{Tables, Step, Answer, Places, Outcome}
+use Rattle.rules.specs.Types.{Tables, Step, Answer, Places}
 use Rattle.rules.specs.Tables.{siteAt}
 use Rattle.rules.specs.Answers.{isAccepted}
 use Rattle.rules.specs.Machine.{lookOf, placesOf, stepOf}

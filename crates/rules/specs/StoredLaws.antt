@@ -1,13 +1,12 @@
 -- Laws of storing: what each place holds afterwards, what stays, and that storing what was seen changes nothing. Assumes nothing.
-use Prim.Native.Nat.{ℕ, _+_, _*_, _<_}
+use Prim.Native.Nat.{ℕ, _<_}
 use native.Mathlib.Omega.{arith}
-use mathlib.Core.Path.{_≡_, refl, sym, ap, _∙_}
+use mathlib.Core.Path.{_≡_}
 use mathlib.Core.Logic.{_≢_}
-use mathlib.Core.List.{List, [], _∷_}
-use lib.ListN.{length, getD, set, length-set}
+use lib.ListN.{length, length-set}
 use lib.Seq.{getD-set-same, getD-set-other, set-getD}
 use Rattle.rules.specs.Types.{Tables, Places, Seen}
-use Rattle.rules.specs.Tables.{siteAt, objectAt, passageAt, visitPlace, visitAt, messageAt, bankAt, pastSite, pastObject, pastPassage, pastVisit, pastMessage}
+use Rattle.rules.specs.Tables.{siteAt, passageAt, visitPlace, visitAt, messageAt, pastSite, pastPassage, pastVisit, pastMessage}
 use Rattle.rules.specs.Machine.{seenOf, stored}
 
 -- the lengths of the five tables: 8, 32, 16, 128, 32

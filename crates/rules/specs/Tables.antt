@@ -1,7 +1,7 @@
 -- The tables of document 01: how a place is read and stored, and what an empty one holds.
 -- `pastX` is what an index past the end reads; it is never met at the lengths 8, 32, 16, 128 and 32. `noX` is an emptied place. Assumes nothing.
 use Prim.Native.Nat.{ℕ, _+_, _*_, _/_, _%_}
-use mathlib.Core.Bool.{Bool, true, false}
+use mathlib.Core.Bool.{true, false}
 use mathlib.Core.List.{List, [], _∷_}
 use lib.ListN.{getD, set, replicate}
 use Rattle.rules.specs.Types.{Site, Holder, Object, Figures, Kind, Phase, Round, Status, Passage, Visit, Body, Message, Tables}

@@ -1,4 +1,4 @@
-// The ranges of document 01, "Tables and numbers", each as the largest number that it allows. The definitions name them in specs/Limits.antt.
+// The ranges of document 01, "Tables and numbers": the largest number that each allows. The definitions have theirs in specs/Limits.antt.
 // Each has the width of the field that it is compared with.
 
 // A clock, or a stamp.

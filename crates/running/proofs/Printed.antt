@@ -10,7 +10,6 @@ use Rattle.rules.specs.declared.tables.Tables.{Tables}
 use Rattle.rules.specs.declared.steps.Reading.{Reading}
 use Rattle.rules.specs.declared.answers.Answer.{Answer}
 use Rattle.rules.specs.declared.answers.Outcome.{Outcome}
-use Rattle.rules.specs.Tables.{start}
 use Rattle.rules.specs.Ranges.{inRange}
 use Rattle.rules.specs.RangesKept.{start-in-range, in-range-after-record}
 use Rattle.rules.specs.Record.{stepOfRecord, readingOf, recordInRangeOf, stepRecordOf}

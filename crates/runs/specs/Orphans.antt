@@ -1,6 +1,6 @@
 -- Demand 3 in definitions: what it says of a moment in a run, from the list of accepted steps and from the tables. Assumes nothing.
 use Prim.Native.Nat.{ℕ, _+_, max}
-use mathlib.Core.Bool.{Bool, true, false, cond, not, _&&_, _||_}
+use mathlib.Core.Bool.{Bool, true, false, cond, _&&_, _||_}
 use mathlib.Core.List.{List, [], _∷_}
 use lib.Dec.{eqb}
 use Rattle.rules.specs.Loops.{oneIf, mostUpTo}

@@ -1,5 +1,4 @@
 -- `edges::list_front` meets its contract. The bound on n is one on the array's length. Assumes nothing.
-use Prim.Native.Nat.{_≤_}
 use mathlib.Core.Path.{sym}
 use lib.Seq.{length-take-le}
 use borrow.Author.Needs.{needs}

@@ -1,5 +1,5 @@
 -- `running::run` meets its contract. The tables stand as the definition has them up to the record; the turns of a record are its work, and the last leaves its outcome. Assumes nothing.
-use Prim.Native.Nat.{_+_, _*_, _-_, _%_, _≤_, _<_, zero-le}
+use Prim.Native.Nat.{_*_, _-_, _%_, _≤_, _<_}
 use native.Mathlib.Omega.{arith}
 use native.Mathlib.Numerals.{add-one}
 use mathlib.Core.Path.{_≡_, refl, _∙_}

@@ -5,7 +5,6 @@ use native.Mathlib.Omega.{arith}
 use native.Mathlib.Numerals.{add-one}
 use mathlib.Core.Path.{_≡_, refl}
 use borrow.Author.Needs.{needs}
-use lib.ListN.{getD}
 use Rattle.rules.specs.Machine.{turnsUpTo}
 use Rattle.decisions.specs.Turns.{tripValue}
 use Rattle.machine.proofs.whole.turns.Statement.{statement}
