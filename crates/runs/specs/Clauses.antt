@@ -191,6 +191,9 @@ receivedBy x = cond (x .seen) (x .last .received) 0
 abbrev pub sentBy : ℕ → Past → ℕ
 sentBy d x = cond (x .seen) (getD (x .last .sent) d 0) 0
 
+abbrev pub Balanced : View → Ledger → ℕ → Type 0
+Balanced w l d = receivedBy (l d) + callsTo w d ≤ sumUpTo (λ v. sentBy d (l v)) 8
+
 -- ---- all of it
 
 pub record Holds (w : View) (l : Ledger) : Type 0 where
@@ -200,4 +203,4 @@ pub record Holds (w : View) (l : Ledger) : Type 0 where
   pub posted : (k : ℕ) → Posted k (w .mail k)
   pub mail : (k : ℕ) → BodyFine w l (w .mail k) (w .mail k .body)
   pub passage : PassageFine w l
-  pub balance : (d : ℕ) → receivedBy (l d) + callsTo w d ≤ sumUpTo (λ v. sentBy d (l v)) 8
+  pub balance : (d : ℕ) → Balanced w l d

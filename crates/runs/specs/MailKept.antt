@@ -1,17 +1,17 @@
 -- A message that is no call comes into a message slot: ask, tell, and the answer to a phase 1 message. Assumes nothing.
-use Prim.Native.Nat.{ℕ, _+_, _<_, _≤_}
+use Prim.Native.Nat.{ℕ, _<_, _≤_}
 use native.Mathlib.Omega.{arith}
 use mathlib.Core.Path.{_≡_, refl, sym, ap, _∙_}
 use mathlib.Core.Logic.{_≢_, ⊎-elim, _⊎_, inl, inr}
 use mathlib.Core.Bool.{true, false, true≢false, false≢true}
 use lib.ListN.{getD}
-use Rattle.rules.specs.Loops.{oneIf, sumUpTo}
+use Rattle.rules.specs.Loops.{oneIf}
 use Rattle.rules.specs.Parts.{hasAnswered, toldOf, largestQuiesce, plainMessage, answerMessage}
 use Rattle.rules.specs.Rounds.{askBody, tellBody}
 use Rattle.runs.specs.Types.{Figures, Kind, Phase, Status, Call, Body, Message}
 use Rattle.runs.specs.Put.{put, put-all}
 use Rattle.runs.specs.View.{View, Ledger}
-use Rattle.runs.specs.Clauses.{isRefresh, isBinding, Below, QuietMail, Quiet, InAnswer, Figure, FigureFine, EdgeFine, SiteFine, ToldFine, BodyFine, Posted, isCallTo, callsTo, receivedBy, sentBy, Holds}
+use Rattle.runs.specs.Clauses.{isRefresh, isBinding, Below, QuietMail, Quiet, InAnswer, Figure, FigureFine, EdgeFine, SiteFine, ToldFine, BodyFine, Posted, isCallTo, callsTo, Balanced, Holds}
 use Rattle.runs.specs.Shrunk.{around, sum-le, body-around, passage-around, site-around}
 
 -- the view with this message at slot k
@@ -155,7 +155,7 @@ module _ (w : View) (l : Ledger) (k : ℕ) (m : Message) (h : Holds w l) (x : Le
             (h .passage);
         balance =
             λ d.
-            let a : receivedBy (l d) + callsTo w d ≤ sumUpTo (λ v. sentBy d (l v)) 8 = h .balance d in
+            let a : Balanced w l d = h .balance d in
             let b : callsTo (withMail w k m) d ≤ callsTo w d =
             sum-le
             _

@@ -1,5 +1,5 @@
 -- The frame law: clocks only rise, messages are lost, visits go at their time; passage and ledger stay. Assumes nothing.
-use Prim.Native.Nat.{ℕ, zero, suc, _+_, _≤_}
+use Prim.Native.Nat.{ℕ, zero, suc, _≤_}
 use native.Mathlib.Omega.{arith}
 use mathlib.Core.Path.{_≡_, sym, ap, _∙_}
 use mathlib.Core.Logic.{_≢_, ⊎-elim, _⊎_, inl, inr}
@@ -10,7 +10,7 @@ use Rattle.rules.specs.Parts.{isEmpty}
 use Rattle.runs.specs.Types.{Figures, Visit, Body, Message}
 use Rattle.runs.specs.View.{View, Ledger}
 use Rattle.runs.specs.Same.{body-kept, site-kept}
-use Rattle.runs.specs.Clauses.{Below, Quiet, Figure, FigureFine, EdgeFine, SiteFine, BodyFine, PassageFine, FreeFine, isCallTo, callsTo, receivedBy, sentBy, Holds}
+use Rattle.runs.specs.Clauses.{Below, Quiet, Figure, FigureFine, EdgeFine, SiteFine, BodyFine, PassageFine, FreeFine, isCallTo, callsTo, Balanced, Holds}
 
 -- a sum of smaller numbers is smaller
 pub sum-le : (f g : ℕ → ℕ) (n : ℕ) → ((i : ℕ) → f i ≤ g i) → sumUpTo f n ≤ sumUpTo g n
@@ -157,7 +157,7 @@ module _ (w : View) (visit : ℕ → Visit) (clock : ℕ → ℕ) (mail : ℕ �
         passage = passage-around w visit clock mail l shrunk-below shrunk-quiet shrunk-edge (h .passage);
         balance =
             λ d.
-            let a : receivedBy (l d) + callsTo w d ≤ sumUpTo (λ v. sentBy d (l v)) 8 = h .balance d in
+            let a : Balanced w l d = h .balance d in
             let b : callsTo (around w visit clock mail) d ≤ callsTo w d = fewer d in
             omega arith;
       }

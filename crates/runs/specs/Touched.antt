@@ -15,7 +15,7 @@ use Rattle.rules.specs.Parts.{countSent, countReceived}
 use Rattle.runs.specs.Types.{Figures, Status, Visit, Call, Told, Body, Message}
 use Rattle.runs.specs.Put.{put, put-same, put-other, put-all, same-or-other, sum-put}
 use Rattle.runs.specs.View.{View, Past, Ledger, relast}
-use Rattle.runs.specs.Clauses.{isBinding, Below, Quiet, InAnswer, Figure, FigureFine, EdgeFine, SiteFine, CallFine, ToldFine, BodyFine, Posted, PassageFine, isCallTo, callsTo, receivedBy, sentBy, Holds}
+use Rattle.runs.specs.Clauses.{isBinding, Below, Quiet, InAnswer, Figure, FigureFine, EdgeFine, SiteFine, CallFine, ToldFine, BodyFine, Posted, PassageFine, isCallTo, callsTo, receivedBy, sentBy, Balanced, Holds}
 use Rattle.runs.specs.Shrunk.{around}
 
 -- a sum over places with one place changed
@@ -278,9 +278,9 @@ module _ {w : View} {l : Ledger} {a : ℕ} {v : Visit} {y : Past} {k : ℕ} {x :
   balance-touched :
       k < 32 → a < 8
       → ((d : ℕ) → receivedBy (put l a y d) + callTo d x + sentBy d (l a) ≤ receivedBy (l d) + callTo d (w .mail k) + sentBy d y)
-      → (d : ℕ) → receivedBy (put l a y d) + callsTo (touchedView w a v k x) d ≤ sumUpTo (λ s. sentBy d (put l a y s)) 8
+      → (d : ℕ) → Balanced (touchedView w a v k x) (put l a y) d
   balance-touched kin ain fair d =
-      let b : receivedBy (l d) + callsTo w d ≤ sumUpTo (λ s. sentBy d (l s)) 8 = t .holds .balance d in
+      let b : Balanced w l d = t .holds .balance d in
       let c : callsTo (touchedView w a v k x) d + callTo d (w .mail k) ≡ callsTo w d + callTo d x =
       sum-over-put (callTo d) (w .mail) k x 32 kin in
       let e : sumUpTo (λ s. sentBy d (put l a y s)) 8 + sentBy d (l a) ≡ sumUpTo (λ s. sentBy d (l s)) 8 + sentBy d y =

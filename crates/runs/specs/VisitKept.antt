@@ -1,5 +1,5 @@
 -- A visit that is there gets other times or another round; its calls stay. Assumes nothing.
-use Prim.Native.Nat.{ℕ, _+_, _<_, _≤_}
+use Prim.Native.Nat.{ℕ, _<_, _≤_}
 use native.Mathlib.Omega.{arith}
 use mathlib.Core.Path.{_≡_, refl, sym, ap, _∙_}
 use mathlib.Core.Logic.{_≢_, ⊎-elim, _⊎_, inl, inr}
@@ -10,7 +10,7 @@ use Rattle.rules.specs.Parts.{largestQuiesce}
 use Rattle.runs.specs.Types.{Figures, Kind, Phase, Visit, Call, Told, Body, Message}
 use Rattle.runs.specs.Put.{put, put-same, put-other, put-all, same-or-other}
 use Rattle.runs.specs.View.{View, Ledger, relast}
-use Rattle.runs.specs.Clauses.{isBinding, Below, QuietMail, Quiet, FigureFine, EdgeFine, SiteFine, BodyFine, callsTo, receivedBy, sentBy, sentFigures, Holds}
+use Rattle.runs.specs.Clauses.{isBinding, Below, QuietMail, Quiet, FigureFine, EdgeFine, SiteFine, BodyFine, receivedBy, sentBy, sentFigures, Balanced, Holds}
 
 -- the view with this visit at site a
 abbrev pub withVisit : View → ℕ → Visit → View
@@ -312,7 +312,7 @@ module _ (w : View) (l : Ledger) (a : ℕ) (v : Visit) (Needed : ℕ → Type 0)
             };
         balance =
             λ d.
-            let i : receivedBy (l d) + callsTo w d ≤ sumUpTo (λ s. sentBy d (l s)) 8 = h .balance d in
+            let i : Balanced w l d = h .balance d in
             let r : receivedBy (withLast l a v d) ≡ receivedBy (l d) = rw (seen-same d, received-same d) refl in
             let t : sumUpTo (λ s. sentBy d (withLast l a v s)) 8 ≡ sumUpTo (λ s. sentBy d (l s)) 8 =
             sum-same _ _ 8 (λ s j. rw (seen-same s, sent-same s) refl) in
