@@ -26,7 +26,7 @@ fn reading(lines: u32, count: u32, length: u32, scan: Scan) -> Reader
 }
 
 // Before a text.
-pub fn unread() -> Reader
+pub(crate) fn unread() -> Reader
     ensures { λ r. ⌜ r ≡ reading 0 0 0 blank ⌝ }
 {
     let s = blank();
@@ -107,7 +107,7 @@ fn going_next(r: Reader, b: u8) -> Reader
 }
 
 // One byte of a text more; after something wrong nothing changes.
-pub fn reader_next(r: Reader, b: u8) -> Reader
+pub(crate) fn reader_next(r: Reader, b: u8) -> Reader
     ensures { λ x. ⌜ x ≡ readerNext r b ⌝ }
 {
     let stop = r.stop;
@@ -137,7 +137,7 @@ fn is_going(stop: Stop) -> bool
 }
 
 // Whether this byte ends a line that says a record, and there is room for it.
-pub fn gives_record(r: Reader, b: u8) -> bool
+pub(crate) fn gives_record(r: Reader, b: u8) -> bool
     ensures { λ x. ⌜ x ≡ givesRecord r b ⌝ }
 {
     let stop = r.stop;

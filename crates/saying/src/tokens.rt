@@ -301,7 +301,7 @@ fn invoke_tokens(h: u16, site: u8, write: u8, object: u8, value: u32) -> Tokens
 }
 
 // Any step.
-pub fn tokens_of(s: Step) -> Tokens
+pub(crate) fn tokens_of(s: Step) -> Tokens
     ensures { λ r. ⌜ Lists r (firstWord s) (moreTokens s) ⌝ }
 {
     match s {

@@ -5,7 +5,7 @@ ghost use mathlib.Core.Path.{_≡_};
 ghost use Rattle.words.specs.Grammar.{mostIn, mayEnd, said, putOne, putTwo, putFour, stored};
 
 // The largest number that so many bytes hold.
-pub fn most_in(width: u8) -> u64
+pub(crate) fn most_in(width: u8) -> u64
     ensures { λ r. ⌜ r ≡ mostIn width ⌝ }
 {
     if width == 1 {
@@ -18,14 +18,14 @@ pub fn most_in(width: u8) -> u64
 }
 
 // Where a line may end.
-pub fn may_end(node: u8) -> bool
+pub(crate) fn may_end(node: u8) -> bool
     ensures { λ r. ⌜ r ≡ mayEnd node ⌝ }
 {
     (node == 0) | (node == 1) | (node == 25)
 }
 
 // A word's own byte.
-pub fn said(field: u8, value: u8, bytes: [u8; 16]) -> [u8; 16]
+pub(crate) fn said(field: u8, value: u8, bytes: [u8; 16]) -> [u8; 16]
     ensures { λ r. ⌜ r ≡ said field value bytes ⌝ }
 {
     let mut next = bytes;
@@ -72,7 +72,7 @@ fn put_four(field: usize, n: u64, bytes: [u8; 16]) -> [u8; 16]
 }
 
 // A number into its field.
-pub fn stored(slot: Slot, n: u64, bytes: [u8; 16]) -> [u8; 16]
+pub(crate) fn stored(slot: Slot, n: u64, bytes: [u8; 16]) -> [u8; 16]
     requires { ⌜ (slot .field ≤ 12) × (n ≤ mostIn (slot .width)) ⌝ }
     ensures { λ r. ⌜ r ≡ stored slot n bytes ⌝ }
 {
