@@ -2,17 +2,17 @@
 -- A caller who keeps 64 bytes for each line of the listing has room. Assumes nothing.
 use Prim.Native.Nat.{ℕ, zero, suc, _+_, _/_, _%_, _≤_, _<_}
 use mathlib.Core.Path.{_≡_, refl, sym, ap, _∙_}
-use mathlib.Core.Bool.{Bool, true, false, cond}
 use mathlib.Core.List.{List, [], _∷_, _++_, append-assoc, append-nil}
 use native.Mathlib.Nat.{add-assoc, add-zero}
 use native.Mathlib.Numerals.{add-one}
 use native.Mathlib.Omega.{arith}
 use lib.Dec.{ltb}
-use lib.ListN.{length, take, drop, set, length-append, length-drop, take-append-drop}
+use lib.ListN.{length, take, drop, set, length-append, take-append-drop}
 use lib.Seq.{length-take-le, take-at, drop-at, drop-drop, set-split, append-snoc}
 use Rattle.rules.specs.declared.answers.Answer.{Answer}
 use Rattle.rules.specs.Answers.{answerNumber, answerValue}
 use Rattle.rules.specs.Listing.{digitsOf, decimalOf, lineOf, sheetLine}
+use Rattle.rules.specs.RangesLaws.{cond-keeps}
 
 -- the buffer with the text at `at`
 abbrev pub written : List ℕ → ℕ → List ℕ → List ℕ
@@ -35,12 +35,6 @@ line-numbers place answer = refl
 -- how far the text reaches
 front-length : (buf : List ℕ) (at : ℕ) (text : List ℕ) → at ≤ length buf → length (take at buf ++ text) ≡ at + length text
 front-length buf at text h = simp (length-append, length-take-le at buf h)
-
--- the length stays
-pub written-length : (buf : List ℕ) (at : ℕ) (text : List ℕ) → at + length text ≤ length buf → length (written buf at text) ≡ length buf
-written-length buf at text h =
-    let l : at ≤ length buf = omega arith in
-    rw (length-append (take at buf ++ text) (drop (at + length text) buf), front-length buf at text l, length-drop) (omega arith)
 
 -- past a text that was written the buffer is as it was
 past : (buf : List ℕ) (at : ℕ) (x : List ℕ) (n : ℕ) → at ≤ length buf → drop (at + length x + n) (written buf at x) ≡ drop (at + length x + n) buf
@@ -77,33 +71,19 @@ put-both {buf} {mid} {last} {at} {m} {n} {x} {y} h p q = record {
   ends = rw (q .ends, p .ends, length-append x y) (omega arith);
 }
 
--- what stands before the next place: what stood before the text, and then the text
-pub put-front : {buf last : List ℕ} {at n : ℕ} {x : List ℕ} → at ≤ length buf → Puts buf at x last n → take n last ≡ take at buf ++ x
-put-front {buf} {last} {at} {n} {x} h p =
-    rw (p .buffer, p .ends) (take-at (take at buf ++ x) (drop (at + length x) buf) (at + length x) (front-length buf at x h))
-
--- the longer of two texts bounds the one that is chosen
-cond-length : (t : Bool) (x y : List ℕ) (k : ℕ) → length x ≤ k → length y ≤ k → length (cond t x y) ≤ k
-cond-length true x y k hx hy = hx
-cond-length false x y k hx hy = hy
-
 -- at most k digits
 pub digits-length : (k n : ℕ) → length (digitsOf k n) ≤ k
 unfolding digitsOf
 digits-length zero n = omega arith
 digits-length (suc k) n =
     let r : length (digitsOf k (n / 10)) ≤ k = digits-length k (n / 10) in
-    cond-length (ltb n 10) ((48 + n) ∷ []) (digitsOf k (n / 10) ++ ((48 + n % 10) ∷ [])) (suc k) (omega arith)
+    cond-keeps (λ x. length x ≤ suc k) (ltb n 10) ((48 + n) ∷ []) (digitsOf k (n / 10) ++ ((48 + n % 10) ∷ [])) (omega arith)
     (rw (length-append (digitsOf k (n / 10))) (omega arith))
 
 -- three numbers of at most twenty digits, two spaces and a newline
 pub numbers-line-length : (place number value : ℕ) → length (numbersLine place number value) ≤ 63
 numbers-line-length place number value =
     simp (length-append) (omega (arith, digits-length 20 place, digits-length 20 number, digits-length 20 value))
-
--- the line of a record
-pub line-length : (place : ℕ) (answer : Answer) → length (lineOf place answer) ≤ 63
-line-length place answer = rw line-numbers (numbers-line-length place (answerNumber answer) (answerValue answer))
 
 -- six bytes of the word and its space, a number and a newline
 pub sheet-line-length : (number : ℕ) → length (sheetLine number) ≤ 27

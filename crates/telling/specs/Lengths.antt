@@ -2,7 +2,7 @@
 use Prim.Native.Nat.{ℕ, zero, suc, _+_, _*_, _/_, _%_, _≤_, _<_}
 use native.Mathlib.Omega.{arith}
 use mathlib.Core.Path.{_≡_, refl}
-use mathlib.Core.Bool.{Bool, true, false, cond}
+use mathlib.Core.Bool.{Bool, cond}
 use mathlib.Core.List.{List, [], _∷_, _++_}
 use borrow.Author.Tests.{lt-ltb}
 use lib.Dec.{ltb, eqb}
@@ -13,17 +13,14 @@ use Rattle.rules.specs.declared.steps.Step.{Step}
 use Rattle.rules.specs.declared.steps.Reading.{Reading}
 use Rattle.rules.specs.declared.steps.SheetAnswer.{SheetAnswer}
 use Rattle.rules.specs.Listing.{digitsOf, decimalOf}
+use Rattle.rules.specs.RangesLaws.{cond-keeps}
 use Rattle.rules.specs.Record.{stepOfRecord}
 use Rattle.rules.specs.RecordLaws.{Bytes16, StepFits, read-fits}
-use Rattle.rules.specs.Sheet.{sheetNumber, recordAt}
+use Rattle.rules.specs.Sheet.{recordAt}
 use Rattle.words.specs.Say.{Token, lettersOf, writeTokens, readTokens, readValueTokens, otherTokens, operationTokens, restText, stepText, rawText, recordBy, recordText}
-use Rattle.words.specs.TextLaws.{digits-length, hex-length}
-use Rattle.words.specs.Tell.{refusalPhrase, sheetPhrase, refusedSheet}
+use Rattle.words.specs.TextLaws.{cond-length, digits-length, hex-length}
+use Rattle.words.specs.Tell.{refusalPhrase, sheetPhrase}
 use Rattle.telling.specs.Numbers.{numberPhrase, acceptedTold, refusedTold, numbersTold, numbersLine}
-
-cond-length : (t : Bool) (x y : List ℕ) (k : ℕ) → length x ≤ k → length y ≤ k → length (cond t x y) ≤ k
-cond-length true x y k hx hy = hx
-cond-length false x y k hx hy = hy
 
 -- ---- digits
 
@@ -53,8 +50,7 @@ place-digits n h = digits-few 20 3 n (omega arith)
 -- ---- the words of a record
 
 rest-cond : (t : Bool) (x y : List Token) → length (restText x) ≤ 42 → length (restText y) ≤ 42 → length (restText (cond t x y)) ≤ 42
-rest-cond true x y hx hy = hx
-rest-cond false x y hx hy = hy
+rest-cond = cond-keeps (λ (x : List Token). length (restText x) ≤ 42)
 
 -- what an invoke says after its site
 operation-length : (write object value : ℕ) → write < 256 → object < 256 → length (restText (operationTokens write object value)) ≤ 42
@@ -147,9 +143,6 @@ sheet-phrase-length SheetAnswer.TooLong = omega arith
 sheet-phrase-length SheetAnswer.TooShort = omega arith
 sheet-phrase-length SheetAnswer.BadMark = omega arith
 sheet-phrase-length SheetAnswer.BadDistance = omega arith
-
-pub refused-sheet-length : (a : SheetAnswer) → length (refusedSheet a) ≤ 45
-refused-sheet-length a = simp (length-append) (omega (arith, digits-length 20 (sheetNumber a), sheet-phrase-length a))
 
 -- ---- the line of a record
 

@@ -17,7 +17,7 @@ use Rattle.rules.specs.Sheet.{trailerAt, sheetAnswer, sheetRecords}
 use Rattle.rules.specs.SheetLaws.{Whole, taken-whole}
 use Rattle.rules.specs.Listing.{decimalOf}
 use Rattle.words.specs.Types.{Fault, Scan, Stop, Verdict, Reader}
-use Rattle.words.specs.Scan.{blank, scanNext, scanAll, endOf, verdictOf, lineMost, recordMost, linesMost, reading, stopped, isGoing, judged, lineEnded, byteRead, nextWhile, readerNext, givesRecord, given, Read, unread, readNext, readAll, textRead}
+use Rattle.words.specs.Scan.{blank, scanNext, scanAll, endOf, verdictOf, lineMost, recordMost, linesMost, reading, stopped, judged, lineEnded, byteRead, nextWhile, readerNext, givesRecord, given, Read, unread, readNext, readAll, textRead}
 use Rattle.words.specs.Sheets.{sheetOf, phraseOf, faultLine, answerText, textMost, longLine, sheetText}
 use Rattle.words.specs.TextLaws.{read-append, going}
 use Rattle.words.specs.SheetsLaws.{made-taken, made-holds}
@@ -218,14 +218,10 @@ line-no-sheet xs e =
     let newline : getD b (trailerAt b + 7) 0 ≡ 10 = ap (λ (k : ℕ). getD b k 0) last ∙ getD-append-seam xs 10 [] 0 in
     omega (arith, mark, newline)
 
--- so neither line is ever taken for a sheet
+-- so the line that names what is wrong is never taken for a sheet
 pub fault-no-sheet : (line : ℕ) (f : Fault) → sheetAnswer (faultLine line f) ≡ SheetAnswer.Taken → ⊥
 fault-no-sheet line f e =
     line-no-sheet ((108 ∷ 105 ∷ 110 ∷ 101 ∷ 32 ∷ []) ++ decimalOf line ++ (58 ∷ 32 ∷ []) ++ phraseOf f) e
-
-pub long-no-sheet : sheetAnswer longLine ≡ SheetAnswer.BadMark
-unfolding sheetAnswer
-long-no-sheet = refl
 
 -- ---- and the other way round: what is wrong with a line after lines that are well is what is said
 
@@ -255,14 +251,6 @@ line-scanned (x ∷ xs) lines count n s records p room =
 pub wrong-stops : (r : Reader) (f : Fault) → r .stop ≡ Stop.Going → r .lines < linesMost → verdictOf (endOf (r .scan)) ≡ Verdict.Wrong f → readerNext r 10 ≡ stopped r f
 unfolding readerNext
 wrong-stops r f going few e = rw (going, lt-ltb (r .lines) linesMost few, e)
-
-and-none : (a b : Bool) → (a && false && b) ≡ false
-and-none true b = refl
-and-none false b = refl
-
-pub wrong-gives : (r : Reader) (b : ℕ) (f : Fault) → verdictOf (endOf (r .scan)) ≡ Verdict.Wrong f → given r b ≡ []
-unfolding given givesRecord
-wrong-gives r b f e = rw (e, and-none (isGoing (r .stop) && eqb b 10 && ltb (r .lines) linesMost) (ltb (r .count) recordMost))
 
 -- after lines that are well, a line of at most 1,000 bytes that says something wrong
 module _ (front line rest : List ℕ) (lines count : ℕ) (records : List ℕ) (f : Fault)

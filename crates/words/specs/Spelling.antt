@@ -1,4 +1,4 @@
--- The words' numbers spell the words, a space in any number between two words is one, and a comment says nothing. Assumes nothing.
+-- The words' numbers spell the words, one space more changes nothing, and a comment says nothing. Assumes nothing.
 use Prim.Native.Nat.{ℕ}
 use mathlib.Core.Path.{_≡_, refl, sym, ap, _∙_}
 use mathlib.Core.Bool.{Bool, true, cond}
@@ -68,19 +68,7 @@ abbrev pub Spaces : List ℕ → Type 0
 Spaces [] = Unit {0}
 Spaces (b ∷ bs) = (isSpace b ≡ true) × Spaces bs
 
-more-spaces : (bs : List ℕ) (s : Scan) → Spaces bs → scanAll (endOf s) bs ≡ endOf s
-unfolding scanAll
-more-spaces [] s h = refl
-more-spaces (b ∷ bs) s h =
-    ap (λ (x : Scan). scanAll x bs) (space-ends (endOf s) b (h .0) ∙ end-again s) ∙ more-spaces bs s (h .1)
-
--- any number of them, of any kind, is one space
-pub spaces-one : (b : ℕ) (bs : List ℕ) (s : Scan) → Spaces (b ∷ bs) → scanAll s (b ∷ bs) ≡ scanNext s 32
-unfolding scanAll
-spaces-one b bs s h =
-    ap (λ (x : Scan). scanAll x bs) (space-ends s b (h .0)) ∙ more-spaces bs s (h .1) ∙ sym (space-ends s 32 refl)
-
--- and at the end of a line, none
+-- at the end of a line any number of them changes nothing
 pub spaces-last : (bs : List ℕ) (s : Scan) → Spaces bs → endOf (scanAll s bs) ≡ endOf s
 unfolding scanAll
 spaces-last [] s h = refl

@@ -78,7 +78,7 @@ plain-record b = plain-by (stepOfRecord b) b
 
 -- ---- how long they are
 
-cond-length : {A : Type 0} (t : Bool) (xs ys : List A) (k : ℕ) → length xs ≤ k → length ys ≤ k → length (cond t xs ys) ≤ k
+pub cond-length : {A : Type 0} (t : Bool) (xs ys : List A) (k : ℕ) → length xs ≤ k → length ys ≤ k → length (cond t xs ys) ≤ k
 cond-length t xs ys k = cond-keeps (λ zs. length zs ≤ k) t xs ys
 
 pub digits-length : (k n : ℕ) → length (digitsOf k n) ≤ k
