@@ -12,8 +12,9 @@ use Rattle.lines.specs.Text.{Puts, put-both}
 use Rattle.words.specs.Say.{recordText}
 use Rattle.words.specs.Tell.{toldUpTo, plainUpTo}
 use Rattle.running.specs.Answered.{answerAt}
-use Rattle.telling.specs.Numbers.{numbersLine, line-told}
+use Rattle.telling.specs.Numbers.{numbersLine}
 use Rattle.telling.specs.Lengths.{numbers-line-length, record-short}
+use Rattle.telling.proofs.Numbers.{line-told}
 
 told-more :
     (part : List ℕ) (i : ℕ)

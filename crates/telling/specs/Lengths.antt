@@ -4,23 +4,24 @@ use native.Mathlib.Omega.{arith}
 use mathlib.Core.Path.{_≡_, refl}
 use mathlib.Core.Bool.{Bool, cond}
 use mathlib.Core.List.{List, [], _∷_, _++_}
-use borrow.Author.Tests.{lt-ltb}
+use mathlib.Core.Logic.{⊎-elim}
+use borrow.Author.Tests.{lt-ltb, ltb-true, ltb-false}
 use lib.Dec.{ltb, eqb}
-use lib.ListN.{length, getD, drop, length-append, length-take, length-drop}
+use lib.ListN.{length, getD, drop, length-append, length-take, length-drop, List·getD-eq-default}
 use lib.Seq.{getD-take, getD-drop}
-use Rattle.rules.specs.declared.answers.Refusal.{Refusal}
 use Rattle.rules.specs.declared.steps.Step.{Step}
 use Rattle.rules.specs.declared.steps.Reading.{Reading}
 use Rattle.rules.specs.declared.steps.SheetAnswer.{SheetAnswer}
 use Rattle.rules.specs.Listing.{digitsOf, decimalOf}
+use Rattle.rules.specs.LoopsLaws.{either}
 use Rattle.rules.specs.RangesLaws.{cond-keeps}
 use Rattle.rules.specs.Record.{stepOfRecord}
-use Rattle.rules.specs.RecordLaws.{Bytes16, StepFits, read-fits}
+use Rattle.rules.specs.RecordLaws.{each-at, Bytes16, StepFits, read-fits}
 use Rattle.rules.specs.Sheet.{recordAt}
 use Rattle.words.specs.Say.{Token, lettersOf, writeTokens, readTokens, readValueTokens, otherTokens, operationTokens, restText, stepText, rawText, recordBy, recordText}
 use Rattle.words.specs.TextLaws.{cond-length, digits-length, hex-length}
-use Rattle.words.specs.Tell.{refusalPhrase, sheetPhrase}
-use Rattle.telling.specs.Numbers.{numberPhrase, acceptedTold, refusedTold, numbersTold, numbersLine}
+use Rattle.words.specs.Tell.{refusalPhrases, refusalPhrase, sheetPhrase, acceptedTold, refusedTold}
+use Rattle.telling.specs.Numbers.{numbersTold, numbersLine}
 
 -- ---- digits
 
@@ -109,22 +110,14 @@ record-bytes part i bytes room =
 
 -- ---- the answer
 
-pub phrase-length : (n : ℕ) → length (numberPhrase n) ≤ 26
-unfolding numberPhrase
+-- computed at each place that has a phrase; past them there is none
+pub phrase-length : (n : ℕ) → length (refusalPhrase n) ≤ 26
+unfolding refusalPhrases
 phrase-length n =
-    cond-length (eqb n 1) (refusalPhrase Refusal.NoStep) _ 26 (omega arith)
-    (cond-length (eqb n 2) (refusalPhrase Refusal.BadField) _ 26 (omega arith)
-    (cond-length (eqb n 3) (refusalPhrase Refusal.NotThere) _ 26 (omega arith)
-    (cond-length (eqb n 4) (refusalPhrase Refusal.SiteDown) _ 26 (omega arith)
-    (cond-length (eqb n 5) (refusalPhrase Refusal.WrongState) _ 26 (omega arith)
-    (cond-length (eqb n 6) (refusalPhrase Refusal.NoVisit) _ 26 (omega arith)
-    (cond-length (eqb n 7) (refusalPhrase Refusal.ClockFull) _ 26 (omega arith)
-    (cond-length (eqb n 8) (refusalPhrase Refusal.Quiesced) _ 26 (omega arith)
-    (cond-length (eqb n 9) (refusalPhrase Refusal.WrongRound) _ 26 (omega arith)
-    (cond-length (eqb n 10) (refusalPhrase Refusal.Held) _ 26 (omega arith)
-    (cond-length (eqb n 11) (refusalPhrase Refusal.Full) _ 26 (omega arith)
-    (cond-length (eqb n 12) (refusalPhrase Refusal.NotClosed) _ 26 (omega arith)
-    (omega arith))))))))))))
+    ⊎-elim
+    (λ h. each-at (λ k. length (refusalPhrase k) ≤ 26) (length refusalPhrases) (omega arith) n (ltb-true n (length refusalPhrases) h))
+    (λ h. rw (List·getD-eq-default refusalPhrases "" (ltb-false n (length refusalPhrases) h)) (omega arith))
+    (either (ltb n (length refusalPhrases)))
 
 pub accepted-length : (v : ℕ) → length (acceptedTold v) ≤ 23
 accepted-length v = omega (arith, digits-length 20 v)

@@ -11,33 +11,64 @@ use sheet::sheet_number;
 use sheet::sheet_records;
 use texts::put_text;
 ghost use Prim.Native.Nat.{_+_, _*_, _≤_};
-ghost use lib.ListN.{length};
+ghost use mathlib.Core.Path.{_≡_};
+ghost use lib.ListN.{length, take};
 ghost use Rattle.lines.specs.Text.{Puts};
 ghost use Rattle.words.specs.Say.{recordText};
-ghost use Rattle.words.specs.Tell.{sheetPhrase, refusedSheet, toldUpTo, plainUpTo, toldOf, plainOf};
+ghost use Rattle.words.specs.Tell.{refusalPhrase, acceptedTold, refusedTold, sheetPhrase, refusedSheet, toldUpTo, plainUpTo, toldOf, plainOf};
 ghost use Rattle.running.specs.Answered.{Holds};
-ghost use Rattle.telling.specs.Numbers.{numberPhrase, acceptedTold, refusedTold, numbersTold, numbersLine};
+ghost use Rattle.telling.specs.Numbers.{numbersTold, numbersLine};
+
+// A phrase: how long it is, and its bytes with spaces behind them.
+struct Phrase(usize, [u8; 26]);
+
+const NO_PHRASE: Phrase = Phrase(0, [b' '; 26]);
+
+// What each refusal means: the phrase of number n at place n.
+const PHRASES: [Phrase; 21] = [
+    NO_PHRASE,
+    Phrase(12, *b"no such step              "),
+    Phrase(26, *b"field or times not allowed"),
+    Phrase(26, *b"no such passage or message"),
+    Phrase(12, *b"site is down              "),
+    Phrase(25, *b"does not fit as it stands "),
+    Phrase(14, *b"no visit there            "),
+    Phrase(24, *b"clock would pass its end  "),
+    Phrase(16, *b"quiesced or dead          "),
+    Phrase(26, *b"wrong round or done before"),
+    Phrase(14, *b"object is held            "),
+    Phrase(12, *b"no room left              "),
+    Phrase(19, *b"round is not closed       "),
+    NO_PHRASE,
+    NO_PHRASE,
+    NO_PHRASE,
+    NO_PHRASE,
+    NO_PHRASE,
+    NO_PHRASE,
+    NO_PHRASE,
+    Phrase(19, *b"tables out of range       "),
+];
+
+// The phrase of a refusal number. No other number has one.
+fn phrase_of(number: u64) -> Phrase
+    ensures { λ r. ⌜ (r .0 ≤ length (r .1)) × (take (r .0) (r .1) ≡ refusalPhrase number) ⌝ }
+{
+    if number < 21 {
+        let k = number as usize;
+        return PHRASES[k];
+    }
+    NO_PHRASE
+}
 
 // What the refusal of this number means.
 fn put_phrase(out: &mut [u8], at: usize, number: u64) -> usize
     requires { ⌜ at + 26 ≤ length (now out) ⌝ }
-    ensures { λ x. ⌜ Puts (now (out .entry)) at (numberPhrase number) (now (out .exit)) x ⌝ }
+    ensures { λ x. ⌜ Puts (now (out .entry)) at (refusalPhrase number) (now (out .exit)) x ⌝ }
 {
-    match number {
-        1 => put_text(out, at, b"no such step"),
-        2 => put_text(out, at, b"field or times not allowed"),
-        3 => put_text(out, at, b"no such passage or message"),
-        4 => put_text(out, at, b"site is down"),
-        5 => put_text(out, at, b"does not fit as it stands"),
-        6 => put_text(out, at, b"no visit there"),
-        7 => put_text(out, at, b"clock would pass its end"),
-        8 => put_text(out, at, b"quiesced or dead"),
-        9 => put_text(out, at, b"wrong round or done before"),
-        10 => put_text(out, at, b"object is held"),
-        11 => put_text(out, at, b"no room left"),
-        12 => put_text(out, at, b"round is not closed"),
-        _ => put_text(out, at, b"tables out of range"),
-    }
+    let phrase = phrase_of(number);
+    let n = phrase.0;
+    let text = phrase.1;
+    put_text(out, at, &text[..n])
 }
 
 // An equals sign and the value of an accepted record.

@@ -1,9 +1,10 @@
 -- What passread prints: each record in words with its answer beside it, or the words alone. Assumes nothing.
 use Prim.Native.Nat.{ℕ, zero, suc, _+_, _/_}
+use Prim.Native.Char.{code}
+use Prim.Native.String.{String, [] as no-more, _∷_ as _then_}
 use mathlib.Core.List.{List, [], _∷_, _++_}
-use lib.ListN.{length}
+use lib.ListN.{length, getD}
 use Rattle.rules.specs.declared.answers.Answer.{Answer}
-use Rattle.rules.specs.declared.answers.Refusal.{Refusal}
 use Rattle.rules.specs.declared.steps.SheetAnswer.{SheetAnswer}
 use Rattle.rules.specs.Answers.{refusalNumber}
 use Rattle.rules.specs.Record.{stepRecordOf}
@@ -13,33 +14,40 @@ use Rattle.words.specs.Say.{recordText}
 
 -- ---- what each refusal means, in a short phrase
 
-abbrev pub refusalPhrase : Refusal → List ℕ
--- "tables out of range"
-refusalPhrase Refusal.OutOfRange = 116 ∷ 97 ∷ 98 ∷ 108 ∷ 101 ∷ 115 ∷ 32 ∷ 111 ∷ 117 ∷ 116 ∷ 32 ∷ 111 ∷ 102 ∷ 32 ∷ 114 ∷ 97 ∷ 110 ∷ 103 ∷ 101 ∷ []
--- "no such step"
-refusalPhrase Refusal.NoStep = 110 ∷ 111 ∷ 32 ∷ 115 ∷ 117 ∷ 99 ∷ 104 ∷ 32 ∷ 115 ∷ 116 ∷ 101 ∷ 112 ∷ []
--- "field or times not allowed"
-refusalPhrase Refusal.BadField = 102 ∷ 105 ∷ 101 ∷ 108 ∷ 100 ∷ 32 ∷ 111 ∷ 114 ∷ 32 ∷ 116 ∷ 105 ∷ 109 ∷ 101 ∷ 115 ∷ 32 ∷ 110 ∷ 111 ∷ 116 ∷ 32 ∷ 97 ∷ 108 ∷ 108 ∷ 111 ∷ 119 ∷ 101 ∷ 100 ∷ []
--- "no such passage or message"
-refusalPhrase Refusal.NotThere = 110 ∷ 111 ∷ 32 ∷ 115 ∷ 117 ∷ 99 ∷ 104 ∷ 32 ∷ 112 ∷ 97 ∷ 115 ∷ 115 ∷ 97 ∷ 103 ∷ 101 ∷ 32 ∷ 111 ∷ 114 ∷ 32 ∷ 109 ∷ 101 ∷ 115 ∷ 115 ∷ 97 ∷ 103 ∷ 101 ∷ []
--- "site is down"
-refusalPhrase Refusal.SiteDown = 115 ∷ 105 ∷ 116 ∷ 101 ∷ 32 ∷ 105 ∷ 115 ∷ 32 ∷ 100 ∷ 111 ∷ 119 ∷ 110 ∷ []
--- "does not fit as it stands"
-refusalPhrase Refusal.WrongState = 100 ∷ 111 ∷ 101 ∷ 115 ∷ 32 ∷ 110 ∷ 111 ∷ 116 ∷ 32 ∷ 102 ∷ 105 ∷ 116 ∷ 32 ∷ 97 ∷ 115 ∷ 32 ∷ 105 ∷ 116 ∷ 32 ∷ 115 ∷ 116 ∷ 97 ∷ 110 ∷ 100 ∷ 115 ∷ []
--- "no visit there"
-refusalPhrase Refusal.NoVisit = 110 ∷ 111 ∷ 32 ∷ 118 ∷ 105 ∷ 115 ∷ 105 ∷ 116 ∷ 32 ∷ 116 ∷ 104 ∷ 101 ∷ 114 ∷ 101 ∷ []
--- "clock would pass its end"
-refusalPhrase Refusal.ClockFull = 99 ∷ 108 ∷ 111 ∷ 99 ∷ 107 ∷ 32 ∷ 119 ∷ 111 ∷ 117 ∷ 108 ∷ 100 ∷ 32 ∷ 112 ∷ 97 ∷ 115 ∷ 115 ∷ 32 ∷ 105 ∷ 116 ∷ 115 ∷ 32 ∷ 101 ∷ 110 ∷ 100 ∷ []
--- "quiesced or dead"
-refusalPhrase Refusal.Quiesced = 113 ∷ 117 ∷ 105 ∷ 101 ∷ 115 ∷ 99 ∷ 101 ∷ 100 ∷ 32 ∷ 111 ∷ 114 ∷ 32 ∷ 100 ∷ 101 ∷ 97 ∷ 100 ∷ []
--- "wrong round or done before"
-refusalPhrase Refusal.WrongRound = 119 ∷ 114 ∷ 111 ∷ 110 ∷ 103 ∷ 32 ∷ 114 ∷ 111 ∷ 117 ∷ 110 ∷ 100 ∷ 32 ∷ 111 ∷ 114 ∷ 32 ∷ 100 ∷ 111 ∷ 110 ∷ 101 ∷ 32 ∷ 98 ∷ 101 ∷ 102 ∷ 111 ∷ 114 ∷ 101 ∷ []
--- "object is held"
-refusalPhrase Refusal.Held = 111 ∷ 98 ∷ 106 ∷ 101 ∷ 99 ∷ 116 ∷ 32 ∷ 105 ∷ 115 ∷ 32 ∷ 104 ∷ 101 ∷ 108 ∷ 100 ∷ []
--- "no room left"
-refusalPhrase Refusal.Full = 110 ∷ 111 ∷ 32 ∷ 114 ∷ 111 ∷ 111 ∷ 109 ∷ 32 ∷ 108 ∷ 101 ∷ 102 ∷ 116 ∷ []
--- "round is not closed"
-refusalPhrase Refusal.NotClosed = 114 ∷ 111 ∷ 117 ∷ 110 ∷ 100 ∷ 32 ∷ 105 ∷ 115 ∷ 32 ∷ 110 ∷ 111 ∷ 116 ∷ 32 ∷ 99 ∷ 108 ∷ 111 ∷ 115 ∷ 101 ∷ 100 ∷ []
+-- the bytes of a text, one for each letter
+abbrev pub textBytes : String → List ℕ
+textBytes no-more = []
+textBytes (letter then more) = code letter ∷ textBytes more
+
+-- the phrase of refusal number n stands at place n; a place with no phrase is no refusal's number
+unfoldable pub refusalPhrases : List String
+refusalPhrases =
+    ""  -- 0
+    ∷ "no such step"  -- 1
+    ∷ "field or times not allowed"  -- 2
+    ∷ "no such passage or message"  -- 3
+    ∷ "site is down"  -- 4
+    ∷ "does not fit as it stands"  -- 5
+    ∷ "no visit there"  -- 6
+    ∷ "clock would pass its end"  -- 7
+    ∷ "quiesced or dead"  -- 8
+    ∷ "wrong round or done before"  -- 9
+    ∷ "object is held"  -- 10
+    ∷ "no room left"  -- 11
+    ∷ "round is not closed"  -- 12
+    ∷ ""  -- 13
+    ∷ ""  -- 14
+    ∷ ""  -- 15
+    ∷ ""  -- 16
+    ∷ ""  -- 17
+    ∷ ""  -- 18
+    ∷ ""  -- 19
+    ∷ "tables out of range"  -- 20
+    ∷ []
+
+-- what the refusal of this number means
+abbrev pub refusalPhrase : ℕ → List ℕ
+refusalPhrase number = textBytes (getD refusalPhrases number "")
 
 abbrev pub sheetPhrase : SheetAnswer → List ℕ
 -- "taken"
@@ -55,11 +63,18 @@ sheetPhrase SheetAnswer.BadDistance = 100 ∷ 105 ∷ 115 ∷ 116 ∷ 97 ∷ 110
 
 -- ---- a record, its answer beside it
 
--- " = " and the value, or " refused ", the number and what it means
+-- " = " and the value
+abbrev pub acceptedTold : ℕ → List ℕ
+acceptedTold value = (32 ∷ 61 ∷ 32 ∷ []) ++ decimalOf value
+
+-- " refused ", the number and what it means
+abbrev pub refusedTold : ℕ → List ℕ
+refusedTold number =
+    (32 ∷ 114 ∷ 101 ∷ 102 ∷ 117 ∷ 115 ∷ 101 ∷ 100 ∷ 32 ∷ []) ++ decimalOf number ++ (32 ∷ refusalPhrase number)
+
 abbrev pub answerTold : Answer → List ℕ
-answerTold (Answer.Accepted v) = (32 ∷ 61 ∷ 32 ∷ []) ++ decimalOf v
-answerTold (Answer.Refused r) =
-    (32 ∷ 114 ∷ 101 ∷ 102 ∷ 117 ∷ 115 ∷ 101 ∷ 100 ∷ 32 ∷ []) ++ decimalOf (refusalNumber r) ++ (32 ∷ refusalPhrase r)
+answerTold (Answer.Accepted v) = acceptedTold v
+answerTold (Answer.Refused r) = refusedTold (refusalNumber r)
 
 -- place, words, answer
 unfoldable pub toldLine : ℕ → List ℕ → Answer → List ℕ
