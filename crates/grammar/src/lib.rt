@@ -1,5 +1,6 @@
 // The two tables of the grammar, and where they are read.
 // Each function equals its definition in words' specs/Grammar.antt.
+use words::grammar::EDGE_COUNT;
 use words::grammar::Edge;
 use words::grammar::Slot;
 ghost use Prim.Native.Nat.{_+_, _≤_, _<_};
@@ -342,7 +343,7 @@ pub fn edge_at(node: u8, word: u64) -> usize
 {
     let mut found: usize = 0;
     let mut k: usize = 0;
-    while k < 31 {
+    while k < EDGE_COUNT {
         found = found_next(found, k, node, word);
         k += 1;
     }

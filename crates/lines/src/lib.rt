@@ -1,7 +1,6 @@
 // The lines of the listing, put into the caller's buffer byte by byte.
 // Each function leaves the buffer with its text at `at`, and hands back the place after the text.
 ghost use Prim.Native.Nat.{_+_, _%_, _≤_, _<_};
-ghost use mathlib.Core.Path.{_≡_};
 ghost use mathlib.Core.List.{[], _∷_};
 ghost use lib.ListN.{length};
 ghost use Rattle.rules.specs.Listing.{digitsOf, decimalOf, sheetLine};

@@ -10,7 +10,6 @@ use Rattle.words.specs.declared.scan.Reader.{Reader}
 use Rattle.lines.specs.Text.{Puts}
 use Rattle.words.specs.Scan.{textRead}
 use Rattle.words.specs.Sheets.{trailerOf, phraseOf, faultLine, answerText}
-use Rattle.rules.specs.Listing.{decimalOf}
 use Rattle.words.specs.TextLaws.{digits-length}
 
 pub phrase-length : (f : Fault) → length (phraseOf f) ≤ 16

@@ -4,6 +4,9 @@ use scanning::line::end_of;
 use scanning::line::scan_next;
 use scanning::line::verdict_of;
 use words::scan::Fault;
+use words::scan::LINE_MOST;
+use words::scan::LINES_MOST;
+use words::scan::RECORD_MOST;
 use words::scan::Reader;
 use words::scan::Scan;
 use words::scan::Stop;
@@ -51,7 +54,7 @@ fn recorded(r: Reader) -> Reader
     requires { ⌜ r .lines < 1000000 ⌝ }
     ensures { λ x. ⌜ x ≡ recorded r ⌝ }
 {
-    if r.count < 4095 {
+    if r.count < RECORD_MOST {
         let s = blank();
         return reading(r.lines + 1, r.count + 1, 0, s);
     }
@@ -76,7 +79,7 @@ fn judged(r: Reader, v: Verdict) -> Reader
 fn line_ended(r: Reader) -> Reader
     ensures { λ x. ⌜ x ≡ lineEnded r ⌝ }
 {
-    if r.lines < 1000000 {
+    if r.lines < LINES_MOST {
         let scan = r.scan;
         let s = end_of(scan);
         let v = verdict_of(s);
@@ -89,7 +92,7 @@ fn line_ended(r: Reader) -> Reader
 fn byte_read(r: Reader, b: u8) -> Reader
     ensures { λ x. ⌜ x ≡ byteRead r b ⌝ }
 {
-    if r.length < 1000 {
+    if r.length < LINE_MOST {
         let scan = r.scan;
         let s = scan_next(scan, b);
         return reading(r.lines, r.count, r.length + 1, s);
@@ -146,5 +149,5 @@ pub(crate) fn gives_record(r: Reader, b: u8) -> bool
     let v = verdict_of(s);
     let going = is_going(stop);
     let says = says_record(v);
-    going & (b == 10) & (r.lines < 1000000) & says & (r.count < 4095)
+    going & (b == 10) & (r.lines < LINES_MOST) & says & (r.count < RECORD_MOST)
 }

@@ -7,7 +7,7 @@ use mathlib.Core.List.{List, [], _∷_, _++_, map}
 use lib.ListN.{length, getD, take}
 use lib.Seq.{take-suc}
 use Rattle.words.specs.declared.tokens.Piece.{Piece}
-use Rattle.words.specs.Say.{Token, pieceToken, tokenText, restText, hexText}
+use Rattle.words.specs.Say.{pieceToken, tokenText, restText, hexText}
 use Rattle.words.specs.TextLaws.{token-length, rest-more, hex-more}
 use Rattle.lines.specs.Text.{Puts, put-both}
 

@@ -12,7 +12,7 @@ ghost use mathlib.Core.List.{[], _∷_, map};
 ghost use mathlib.Core.Path.{_≡_};
 ghost use lib.ListN.{length, take};
 ghost use Rattle.lines.specs.Text.{Puts};
-ghost use Rattle.words.specs.Say.{numberText, wordText, pieceToken, tokenText, restText, stepText, hexDigit, hexText, rawText, recordText};
+ghost use Rattle.words.specs.Say.{pieceToken, tokenText, restText, stepText, hexDigit, hexText, rawText, recordText};
 
 // A space, and a word or a number.
 fn put_token(out: &mut [u8], at: usize, t: Piece) -> usize

@@ -1,5 +1,4 @@
 // What a byte may be.
-ghost use Prim.Native.Nat.{_≤_};
 ghost use mathlib.Core.Path.{_≡_};
 ghost use Rattle.words.specs.Scan.{isSpace, isHash, isLetter, isDigit, hexValue};
 

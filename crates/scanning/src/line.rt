@@ -11,6 +11,7 @@ use crate::fields::stored;
 use grammar::edge_at;
 use grammar::edge_of;
 use grammar::slot_at;
+use words::grammar::EDGE_COUNT;
 use words::grammar::Edge;
 use words::grammar::Slot;
 use words::scan::Fault;
@@ -19,7 +20,6 @@ use words::scan::Scan;
 use words::scan::Verdict;
 ghost use Prim.Native.Nat.{_≤_, _<_};
 ghost use mathlib.Core.Path.{_≡_};
-ghost use lib.Dec.{eqb};
 ghost use mathlib.Core.Bool.{true};
 ghost use Rattle.words.specs.Scan.{at, blank, wrong, misplaced, followed, wordTaken, filled, numberTaken, endOf, noted, hexTaken, hexNext, isLetter, isDigit, lettered, numbered, begun, byteBy, liveNext, scanNext, isRecord, endsAt, verdictOf};
 
@@ -72,7 +72,7 @@ fn word_taken(s: Scan) -> Scan
     ensures { λ r. ⌜ r ≡ wordTaken s ⌝ }
 {
     let k = edge_at(s.node, s.token);
-    if k < 31 {
+    if k < EDGE_COUNT {
         let e = edge_of(k);
         return followed(s, e);
     }

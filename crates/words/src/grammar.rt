@@ -1,5 +1,8 @@
 // The rows of the two tables of the grammar.
 
+// How many edges there are; as a row it says that there is none.
+pub const EDGE_COUNT: usize = 31;
+
 // At place `from` the word leads to place `to`, and puts `value` into byte `field` of the record; a field of 16 is none.
 pub struct Edge {
     pub from: u8,

@@ -1,5 +1,14 @@
 // The state of a reader of words, byte by byte.
 
+// A line has at most so many bytes, its newline apart.
+pub const LINE_MOST: u32 = 1000;
+
+// A sheet holds at most so many records.
+pub const RECORD_MOST: u32 = 4095;
+
+// A text has fewer lines than this, those that say nothing counted.
+pub const LINES_MOST: u32 = 1000000;
+
 // What is wrong with a line. The number of each is its place here, from 1.
 pub enum Fault {
     UnknownWord,

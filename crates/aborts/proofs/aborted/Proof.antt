@@ -1,4 +1,3 @@
--- `aborts::aborted` meets its contract. What its callees ensure, put together, is the definition. Assumes nothing.
 use borrow.Author.Needs.{needs}
 use Rattle.aborts.proofs.aborted.Statement.{statement}
 use Rattle.aborts.proofs.aborted.Tie as tie

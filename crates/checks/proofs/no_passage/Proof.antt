@@ -1,4 +1,3 @@
--- `checks::no_passage` meets its contract. What its callees ensure, put together, is the definition. Assumes nothing.
 use borrow.Author.Needs.{needs}
 use Rattle.checks.proofs.no_passage.Statement.{statement}
 use Rattle.checks.proofs.no_passage.Tie as tie

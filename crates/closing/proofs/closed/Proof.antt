@@ -1,4 +1,3 @@
--- `closing::closed` meets its contract. What its callees ensure, put together, is the definition. Assumes nothing.
 use borrow.Author.Needs.{needs}
 use Rattle.closing.proofs.closed.Statement.{statement}
 use Rattle.closing.proofs.closed.Tie as tie

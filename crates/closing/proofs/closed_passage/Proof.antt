@@ -1,4 +1,3 @@
--- `closing::closed_passage` meets its contract. What its callees ensure, put together, is the definition. Assumes nothing.
 use borrow.Author.Needs.{needs}
 use Rattle.closing.proofs.closed_passage.Statement.{statement}
 use Rattle.closing.proofs.closed_passage.Tie as tie

@@ -1,4 +1,3 @@
--- `closing::round_told` meets its contract. What its callees ensure, put together, is the definition. Assumes nothing.
 use borrow.Author.Needs.{needs}
 use Rattle.closing.proofs.round_told.Statement.{statement}
 use Rattle.closing.proofs.round_told.Tie as tie

@@ -1,4 +1,3 @@
--- `grammar::found_next` meets its contract. What its callees ensure, put together with the tests that were taken, is the definition. Assumes nothing.
 use borrow.Author.Tests.{eq-eqb, ne-eqb}
 use borrow.Author.Needs.{needs}
 use Rattle.grammar.proofs.found_next.Statement.{statement}

@@ -1,4 +1,3 @@
--- `grammar::leads_from` meets its contract. What its callees ensure, put together with the tests that were taken, is the definition. Assumes nothing.
 use borrow.Author.Needs.{needs}
 use Rattle.grammar.proofs.leads_from.Statement.{statement}
 use Rattle.grammar.proofs.leads_from.Tie as tie

@@ -1,4 +1,3 @@
--- `listing::list` meets its contract. In each arm the case is known, and the callees give the rest. Assumes nothing.
 use Prim.Native.Nat.{_/_, _≤_}
 use native.Mathlib.Omega.{arith}
 use mathlib.Core.Path.{_≡_, sym, _∙_}

@@ -1,4 +1,3 @@
--- `machine::step` meets its contract. What its callees ensure, put together, is the definition. Assumes nothing.
 use mathlib.Core.Path.{sym, _∙_}
 use borrow.Author.Needs.{needs}
 use Rattle.rules.specs.Answers.{firstOf}

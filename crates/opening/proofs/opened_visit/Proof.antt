@@ -1,4 +1,3 @@
--- `opening::opened_visit` meets its contract. What its callees ensure, put together, is the definition. Assumes nothing.
 use borrow.Author.Needs.{needs}
 use Rattle.opening.proofs.opened_visit.Statement.{statement}
 use Rattle.opening.proofs.opened_visit.Tie as tie

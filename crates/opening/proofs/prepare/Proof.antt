@@ -1,4 +1,3 @@
--- `opening::prepare` meets its contract. What its callees ensure, put together, is the definition. Assumes nothing.
 use borrow.Author.Needs.{needs}
 use Rattle.rules.specs.Answers.{firstOf}
 use Rattle.rules.specs.Rounds.{prepareOf}

@@ -1,4 +1,3 @@
--- `outages::crashed_slot` meets its contract. What its callees ensure, put together, is the definition. Assumes nothing.
 use borrow.Author.Needs.{needs}
 use Rattle.rules.specs.Stations.{crashedSlot}
 use Rattle.outages.proofs.crashed_slot.Statement.{statement}

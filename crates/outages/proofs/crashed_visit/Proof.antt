@@ -1,4 +1,3 @@
--- `outages::crashed_visit` meets its contract. What its callees ensure, put together, is the definition. Assumes nothing.
 use borrow.Author.Needs.{needs}
 use Rattle.outages.proofs.crashed_visit.Statement.{statement}
 use Rattle.outages.proofs.crashed_visit.Tie as tie

@@ -1,4 +1,3 @@
--- `outages::loses_home` meets its contract. What its callees ensure, put together, is the definition. Assumes nothing.
 use borrow.Author.Needs.{needs}
 use Rattle.outages.proofs.loses_home.Statement.{statement}
 use Rattle.outages.proofs.loses_home.Tie as tie

@@ -1,4 +1,3 @@
--- `passages::begun` meets its contract. What its callees ensure, put together, is the definition. Assumes nothing.
 use borrow.Author.Needs.{needs}
 use Rattle.passages.proofs.begun.Statement.{statement}
 use Rattle.passages.proofs.begun.Tie as tie

@@ -1,4 +1,3 @@
--- `passages::freed_slot` meets its contract. What its callees ensure, put together, is the definition. Assumes nothing.
 use borrow.Author.Needs.{needs}
 use Rattle.passages.proofs.freed_slot.Statement.{statement}
 use Rattle.passages.proofs.freed_slot.Tie as tie

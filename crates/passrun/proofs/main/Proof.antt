@@ -1,4 +1,3 @@
--- `passrun::main` meets its contract. What its callees ensure, put together, is the definition. Assumes nothing.
 use mathlib.Core.Path.{sym}
 use lib.Seq.{length-take-le}
 use borrow.Author.Needs.{needs}

@@ -1,4 +1,3 @@
--- `phases::asked_at` meets its contract. What its callees ensure, put together, is the definition. Assumes nothing.
 use borrow.Author.Needs.{needs}
 use Rattle.phases.proofs.asked_at.Statement.{statement}
 use Rattle.phases.proofs.asked_at.Tie as tie

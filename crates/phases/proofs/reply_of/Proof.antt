@@ -1,4 +1,3 @@
--- `phases::reply_of` meets its contract. What its callees ensure, put together, is the definition. Assumes nothing.
 use borrow.Author.Needs.{needs}
 use Rattle.phases.proofs.reply_of.Statement.{statement}
 use Rattle.phases.proofs.reply_of.Tie as tie

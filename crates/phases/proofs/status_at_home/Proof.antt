@@ -1,4 +1,3 @@
--- `phases::status_at_home` meets its contract. What its callees ensure, put together, is the definition. Assumes nothing.
 use borrow.Author.Needs.{needs}
 use Rattle.phases.proofs.status_at_home.Statement.{statement}
 use Rattle.phases.proofs.status_at_home.Tie as tie

@@ -1,4 +1,3 @@
--- `ranges::body_in_range` meets its contract. In each arm the case is known, and the callees give the rest. Assumes nothing.
 use borrow.Author.Needs.{needs}
 use Rattle.ranges.proofs.body_in_range.Statement.{statement}
 use Rattle.ranges.proofs.body_in_range.Tie as tie

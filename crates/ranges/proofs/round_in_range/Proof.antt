@@ -1,4 +1,3 @@
--- `ranges::round_in_range` meets its contract. What its callees ensure, put together, is the definition. Assumes nothing.
 use borrow.Author.Needs.{needs}
 use Rattle.rules.specs.Ranges.{roundInRange}
 use Rattle.ranges.proofs.round_in_range.Statement.{statement}

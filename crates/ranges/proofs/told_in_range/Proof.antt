@@ -1,4 +1,3 @@
--- `ranges::told_in_range` meets its contract. In each arm the case is known, and the definition computes there. Assumes nothing.
 use borrow.Author.Needs.{needs}
 use Rattle.ranges.proofs.told_in_range.Statement.{statement}
 use Rattle.ranges.proofs.told_in_range.Tie as tie

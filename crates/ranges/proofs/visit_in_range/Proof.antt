@@ -1,4 +1,3 @@
--- `ranges::visit_in_range` meets its contract. What its callees ensure, put together, is the definition. Assumes nothing.
 use borrow.Author.Needs.{needs}
 use Rattle.ranges.proofs.visit_in_range.Statement.{statement}
 use Rattle.ranges.proofs.visit_in_range.Tie as tie

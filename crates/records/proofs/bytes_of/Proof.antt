@@ -1,4 +1,3 @@
--- `records::bytes_of` meets its contract. What its callees ensure, put together, is the definition. Assumes nothing.
 use borrow.Author.Needs.{needs}
 use Rattle.records.proofs.bytes_of.Statement.{statement}
 use Rattle.records.proofs.bytes_of.Tie as tie

@@ -1,4 +1,3 @@
--- `records::fields_fit` meets its contract. What its callees ensure, put together, is the definition. Assumes nothing.
 use borrow.Author.Needs.{needs}
 use Rattle.records.proofs.fields_fit.Statement.{statement}
 use Rattle.records.proofs.fields_fit.Tie as tie

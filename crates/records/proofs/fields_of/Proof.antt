@@ -1,4 +1,3 @@
--- `records::fields_of` meets its contract. What its callees ensure, put together, is the definition. Assumes nothing.
 use borrow.Author.Needs.{needs}
 use Rattle.records.proofs.fields_of.Statement.{statement}
 use Rattle.records.proofs.fields_of.Tie as tie

@@ -1,4 +1,3 @@
--- `records::fits` meets its contract. What its callees ensure, put together, is the definition. Assumes nothing.
 use borrow.Author.Needs.{needs}
 use Rattle.records.proofs.fits.Statement.{statement}
 use Rattle.records.proofs.fits.Tie as tie

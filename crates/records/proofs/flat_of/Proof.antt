@@ -1,4 +1,3 @@
--- `records::flat_of` meets its contract. In each arm the case is known, and the callees give the rest. Assumes nothing.
 use borrow.Author.Needs.{needs}
 use Rattle.records.proofs.flat_of.Statement.{statement}
 use Rattle.records.proofs.flat_of.Tie as tie

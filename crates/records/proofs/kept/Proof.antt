@@ -1,4 +1,3 @@
--- `records::kept` meets its contract. What its callees ensure, put together, is the definition. Assumes nothing.
 use borrow.Author.Needs.{needs}
 use native.Mathlib.Omega.{arith}
 use Rattle.records.proofs.kept.Statement.{statement}

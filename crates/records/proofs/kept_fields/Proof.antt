@@ -1,4 +1,3 @@
--- `records::kept_fields` meets its contract. What its callees ensure, put together, is the definition. Assumes nothing.
 use borrow.Author.Needs.{needs}
 use Rattle.records.proofs.kept_fields.Statement.{statement}
 use Rattle.records.proofs.kept_fields.Tie as tie

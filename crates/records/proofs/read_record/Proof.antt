@@ -1,4 +1,3 @@
--- `records::read_record` meets its contract. What its callees ensure, put together, is the definition. Assumes nothing.
 use borrow.Author.Needs.{needs}
 use Rattle.rules.specs.Record.{stepOfRecord}
 use Rattle.records.proofs.read_record.Statement.{statement}

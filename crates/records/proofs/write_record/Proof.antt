@@ -1,4 +1,3 @@
--- `records::write_record` meets its contract. What its callees ensure, put together, is the definition. Assumes nothing.
 use borrow.Author.Needs.{needs}
 use Rattle.rules.specs.RecordLaws.{flat-code}
 use Rattle.rules.specs.Record.{recordOfStep}

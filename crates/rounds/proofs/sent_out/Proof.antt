@@ -1,4 +1,3 @@
--- `rounds::sent_out` meets its contract. What its callees ensure, put together, is the definition. Assumes nothing.
 use borrow.Author.Needs.{needs}
 use Rattle.rounds.proofs.sent_out.Statement.{statement}
 use Rattle.rounds.proofs.sent_out.Tie as tie

@@ -1,4 +1,3 @@
--- `sheet::distance` meets its contract. What its callees ensure, put together, is the definition. Assumes nothing.
 use borrow.Author.Needs.{needs}
 use Rattle.sheet.proofs.distance.Statement.{statement}
 use Rattle.sheet.proofs.distance.Tie as tie

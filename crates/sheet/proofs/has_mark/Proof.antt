@@ -1,4 +1,3 @@
--- `sheet::has_mark` meets its contract. The definition computes to what the code makes. Assumes nothing.
 use borrow.Author.Needs.{needs}
 use mathlib.Core.Path.{refl}
 use Rattle.sheet.proofs.has_mark.Statement.{statement}

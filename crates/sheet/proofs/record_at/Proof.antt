@@ -1,4 +1,3 @@
--- `sheet::record_at` meets its contract. The definition computes to what the code makes. Assumes nothing.
 use Prim.Native.Nat.{_*_}
 use Rattle.sheet.proofs.Sixteen.{sixteen-bytes}
 use borrow.Author.Needs.{needs}

@@ -1,4 +1,3 @@
--- `stations::swept_passage` meets its contract. What its callees ensure, put together, is the definition. Assumes nothing.
 use borrow.Author.Needs.{needs}
 use Rattle.stations.proofs.swept_passage.Statement.{statement}
 use Rattle.stations.proofs.swept_passage.Tie as tie

@@ -1,4 +1,3 @@
--- `stations::swept_slot` meets its contract. What its callees ensure, put together, is the definition. Assumes nothing.
 use borrow.Author.Needs.{needs}
 use Rattle.rules.specs.Stations.{sweptSlot}
 use Rattle.stations.proofs.swept_slot.Statement.{statement}

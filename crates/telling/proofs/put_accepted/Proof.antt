@@ -1,4 +1,3 @@
--- `telling::put_accepted` meets its contract. What its callees ensure, put together, is the definition. Assumes nothing.
 use Rattle.lines.specs.Text.{put-both}
 use lib.ListN.{length}
 use Prim.Native.Nat.{_≤_}

@@ -25,7 +25,8 @@ unfolding plainUpTo
 loop-holds c = (put-none (c .before .before .args .out .now) 0, omega arith, search needs, refl)
 
 put-byte-requires : tie.Need-put-byte-requires Inv-loop μ-loop
-put-byte-requires c κs = let z : length (c .before .before .before .before .before .record-at .result) ≡ 16 = search needs in
+put-byte-requires c κs =
+    let z : length (c .before .before .before .before .before .record-at .result) ≡ 16 = search needs in
     omega (arith, record-length (c .before .before .before .before .before .record-at .result) z)
 
 loop-again : tie.Need-loop-again Inv-loop μ-loop

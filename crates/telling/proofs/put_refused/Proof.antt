@@ -1,4 +1,3 @@
--- `telling::put_refused` meets its contract. What its callees ensure, put together, is the definition. Assumes nothing.
 use Rattle.words.specs.TextLaws.{digits-length}
 use Rattle.lines.specs.Text.{put-both}
 use lib.ListN.{length}

@@ -1,4 +1,3 @@
--- `telling::put_refused_sheet` meets its contract. What its callees ensure, put together, is the definition. Assumes nothing.
 use Rattle.telling.specs.Lengths.{sheet-phrase-length}
 use Rattle.words.specs.TextLaws.{digits-length}
 use Rattle.lines.specs.Text.{put-both}

@@ -1,4 +1,3 @@
--- `telling::put_told_line` meets its contract. What its callees ensure, put together, is the definition. Assumes nothing.
 use Rattle.telling.specs.Numbers.{numbersLine}
 use Rattle.telling.specs.Lengths.{place-digits, told-length}
 use Rattle.lines.specs.Text.{put-both}

@@ -1,4 +1,3 @@
--- `telling::tell` meets its contract. In each arm the case is known, and the callees give the rest. Assumes nothing.
 use Prim.Native.Nat.{_*_, _/_, _≤_}
 use native.Mathlib.Omega.{arith}
 use mathlib.Core.Path.{_≡_, sym, _∙_}
@@ -13,7 +12,8 @@ use Rattle.telling.proofs.tell.Statement.{statement}
 use Rattle.telling.proofs.tell.Tie as tie
 
 returns : tie.Need-returns
-returns c = let l : length (c .before .before .before .before .before .args .out .now) ≡ 524288 = search needs in
+returns c =
+    let l : length (c .before .before .before .before .before .args .out .now) ≡ 524288 = search needs in
     let q : refusedSheet (c .before .before .before .sheet-answer .result) ≡ toldOf (c .before .before .before .before .before .args .sheet .now) = told-refused (c .before .before .before .before .before .args .sheet .now) (c .before .before .before .sheet-answer .result) (c .before .before .before .sheet-answer .ensures) (c .before .before .match .keys2) in
     (rw q at (c .put-refused-sheet .ensures .0), omega (arith, c .put-refused-sheet .ensures .1, c .put-refused-sheet .kept .0))
 
@@ -23,13 +23,15 @@ run-requires c κs = let few : length (sheetRecords (c .before .before .before .
     (omega arith, omega (arith, n))
 
 put-told-requires : tie.Need-put-told-requires
-put-told-requires c κs = let l : length (c .before .before .before .before .before .before .before .before .before .before .args .out .now) ≡ 524288 = search needs in
+put-told-requires c κs =
+    let l : length (c .before .before .before .before .before .before .before .before .before .before .args .out .now) ≡ 524288 = search needs in
     let few : length (sheetRecords (c .before .before .before .before .before .before .before .before .before .before .args .sheet .now)) / 16 ≤ 4095 = taken-few (c .before .before .before .before .before .before .before .before .before .before .args .sheet .now) (sym (c .before .before .before .before .before .before .before .before .sheet-answer .ensures) ∙ c .before .before .before .before .before .before .enum-told .given .1) in
     let n : length (c .before .before .before .before .before .sheet-records .result .now) / 16 ≤ 4095 = rw (c .before .before .before .before .before .sheet-records .ensures) few in
     (omega arith, omega (arith, n, c .before .before .before .run .kept .1 .1 .0), omega (arith, n), n, answers-held (c .before .before .before .before .before .sheet-records .result .now) (length (c .before .before .before .before .before .sheet-records .result .now) / 16) _ _ (c .before .before .before .run .ensures))
 
 returns-2 : tie.Need-returns-2
-returns-2 c = let l : length (c .before .before .before .before .before .before .before .before .before .before .before .args .out .now) ≡ 524288 = search needs in
+returns-2 c =
+    let l : length (c .before .before .before .before .before .before .before .before .before .before .before .args .out .now) ≡ 524288 = search needs in
     let taken = sym (c .before .before .before .before .before .before .before .before .before .sheet-answer .ensures) ∙ c .before .before .before .before .before .before .before .enum-told .given .1 in
     let few : length (sheetRecords (c .before .before .before .before .before .before .before .before .before .before .before .args .sheet .now)) / 16 ≤ 4095 = taken-few (c .before .before .before .before .before .before .before .before .before .before .before .args .sheet .now) taken in
     let m : c .put-told .result ≤ 128 * (length (sheetRecords (c .before .before .before .before .before .before .before .before .before .before .before .args .sheet .now)) / 16) = rw (c .before .before .before .before .before .before .sheet-records .ensures) at (c .put-told .ensures .1) in

@@ -1,4 +1,3 @@
--- `telling::tell_plain` meets its contract. In each arm the case is known, and the callees give the rest. Assumes nothing.
 use Prim.Native.Nat.{_*_, _/_, _≤_}
 use native.Mathlib.Omega.{arith}
 use mathlib.Core.Path.{_≡_, sym, _∙_}
@@ -12,17 +11,20 @@ use Rattle.telling.proofs.tell_plain.Statement.{statement}
 use Rattle.telling.proofs.tell_plain.Tie as tie
 
 returns : tie.Need-returns
-returns c = let l : length (c .before .before .before .before .before .args .out .now) ≡ 524288 = search needs in
+returns c =
+    let l : length (c .before .before .before .before .before .args .out .now) ≡ 524288 = search needs in
     let q : refusedSheet (c .before .before .before .sheet-answer .result) ≡ plainOf (c .before .before .before .before .before .args .sheet .now) = plain-refused (c .before .before .before .before .before .args .sheet .now) (c .before .before .before .sheet-answer .result) (c .before .before .before .sheet-answer .ensures) (c .before .before .match .keys2) in
     (rw q at (c .put-refused-sheet .ensures .0), omega (arith, c .put-refused-sheet .ensures .1, c .put-refused-sheet .kept .0))
 
 put-plain-requires : tie.Need-put-plain-requires
-put-plain-requires c κs = let l : length (c .before .before .before .before .before .before .args .out .now) ≡ 524288 = search needs in
+put-plain-requires c κs =
+    let l : length (c .before .before .before .before .before .before .args .out .now) ≡ 524288 = search needs in
     let few : length (sheetRecords (c .before .before .before .before .before .before .args .sheet .now)) / 16 ≤ 4095 = taken-few (c .before .before .before .before .before .before .args .sheet .now) (sym (c .before .before .before .before .sheet-answer .ensures) ∙ c .before .before .enum-told .given .1) in
     (omega arith, rw (c .before .sheet-records .ensures, l) (omega (arith, few)))
 
 returns-2 : tie.Need-returns-2
-returns-2 c = let l : length (c .before .before .before .before .before .before .before .args .out .now) ≡ 524288 = search needs in
+returns-2 c =
+    let l : length (c .before .before .before .before .before .before .before .args .out .now) ≡ 524288 = search needs in
     let taken = sym (c .before .before .before .before .before .sheet-answer .ensures) ∙ c .before .before .before .enum-told .given .1 in
     let few : length (sheetRecords (c .before .before .before .before .before .before .before .args .sheet .now)) / 16 ≤ 4095 = taken-few (c .before .before .before .before .before .before .before .args .sheet .now) taken in
     let m : c .put-plain .result ≤ 128 * (length (sheetRecords (c .before .before .before .before .before .before .before .args .sheet .now)) / 16) = rw (c .before .before .sheet-records .ensures) at (c .put-plain .ensures .1) in

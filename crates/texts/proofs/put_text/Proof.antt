@@ -1,4 +1,3 @@
--- `texts::put_text` meets its contract. What its callees ensure, put together with the tests that were taken, is the definition. Assumes nothing.
 use Rattle.texts.proofs.Pieces.{one-more}
 use Rattle.lines.specs.Text.{Puts, put-none}
 use lib.Seq.{take-length}
@@ -27,7 +26,9 @@ same-length : tie.Need-same-length Inv-loop μ-loop
 same-length c = c .before .loop .inv .2
 
 returns : tie.Need-returns Inv-loop μ-loop
-returns c = let e : c .before .loop .i ≡ length (c .before .before .args .text .now) = omega arith in rw (e, take-length (c .before .before .args .text .now)) at (c .before .loop .inv .0)
+returns c =
+    let e : c .before .loop .i ≡ length (c .before .before .args .text .now) = omega arith in
+    rw (e, take-length (c .before .before .args .text .now)) at (c .before .loop .inv .0)
 
 pub put-text-spec : {M : Type 1} → statement M
 put-text-spec =

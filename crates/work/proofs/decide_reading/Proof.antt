@@ -1,4 +1,3 @@
--- `work::decide_reading` meets its contract. In each arm the case is known, and the callees give the rest. Assumes nothing.
 use borrow.Author.Needs.{needs}
 use Rattle.work.proofs.decide_reading.Statement.{statement}
 use Rattle.work.proofs.decide_reading.Tie as tie

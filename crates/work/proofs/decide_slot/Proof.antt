@@ -1,4 +1,3 @@
--- `work::decide_slot` meets its contract. What its callees ensure, put together, is the definition. Assumes nothing.
 use borrow.Author.Needs.{needs}
 use Rattle.work.proofs.decide_slot.Statement.{statement}
 use Rattle.work.proofs.decide_slot.Tie as tie

@@ -1,4 +1,3 @@
--- `work::is_message_of` meets its contract. What its callees ensure, put together, is the definition. Assumes nothing.
 use borrow.Author.Needs.{needs}
 use Rattle.work.proofs.is_message_of.Statement.{statement}
 use Rattle.work.proofs.is_message_of.Tie as tie

@@ -1,4 +1,3 @@
--- `work::reading_look` meets its contract. In each arm the case is known, and the callees give the rest. Assumes nothing.
 use borrow.Author.Needs.{needs}
 use Rattle.work.proofs.reading_look.Statement.{statement}
 use Rattle.work.proofs.reading_look.Tie as tie

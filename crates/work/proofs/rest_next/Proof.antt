@@ -1,4 +1,3 @@
--- `work::rest_next` meets its contract. What its callees ensure, put together, is the definition. Assumes nothing.
 use borrow.Author.Needs.{needs}
 use Rattle.work.proofs.rest_next.Statement.{statement}
 use Rattle.work.proofs.rest_next.Tie as tie

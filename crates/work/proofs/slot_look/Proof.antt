@@ -1,4 +1,3 @@
--- `work::slot_look` meets its contract. What its callees ensure, put together, is the definition. Assumes nothing.
 use borrow.Author.Needs.{needs}
 use Rattle.work.proofs.slot_look.Statement.{statement}
 use Rattle.work.proofs.slot_look.Tie as tie

@@ -1,4 +1,3 @@
--- `calls::delivered::called` meets its contract. What its callees ensure, put together, is the definition. Assumes nothing.
 use borrow.Author.Needs.{needs}
 use Rattle.calls.proofs.Received.{called-received}
 use Rattle.calls.proofs.delivered.called.Statement.{statement}

@@ -1,4 +1,3 @@
--- `calls::delivered::called_visit` meets its contract. What its callees ensure, put together, is the definition. Assumes nothing.
 use borrow.Author.Needs.{needs}
 use Rattle.calls.proofs.delivered.called_visit.Statement.{statement}
 use Rattle.calls.proofs.delivered.called_visit.Tie as tie

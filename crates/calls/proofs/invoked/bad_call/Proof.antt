@@ -1,4 +1,3 @@
--- `calls::invoked::bad_call` meets its contract. What its callees ensure, put together, is the definition. Assumes nothing.
 use borrow.Author.Needs.{needs}
 use Rattle.calls.proofs.invoked.bad_call.Statement.{statement}
 use Rattle.calls.proofs.invoked.bad_call.Tie as tie

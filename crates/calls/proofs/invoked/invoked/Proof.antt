@@ -1,4 +1,3 @@
--- `calls::invoked::invoked` meets its contract. What its callees ensure, put together, is the definition. Assumes nothing.
 use borrow.Author.Needs.{needs}
 use Rattle.calls.proofs.invoked.invoked.Statement.{statement}
 use Rattle.calls.proofs.invoked.invoked.Tie as tie

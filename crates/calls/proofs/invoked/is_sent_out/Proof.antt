@@ -1,4 +1,3 @@
--- `calls::invoked::is_sent_out` meets its contract. What its callees ensure, put together, is the definition. Assumes nothing.
 use borrow.Author.Needs.{needs}
 use Rattle.calls.proofs.invoked.is_sent_out.Statement.{statement}
 use Rattle.calls.proofs.invoked.is_sent_out.Tie as tie

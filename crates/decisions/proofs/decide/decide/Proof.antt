@@ -1,4 +1,3 @@
--- `decisions::decide::decide` meets its contract. In each arm the case is known, and the callees give the rest. Assumes nothing.
 use borrow.Author.Needs.{needs}
 use Rattle.rules.specs.Machine.{decideOf}
 use Rattle.decisions.proofs.decide.decide.Statement.{statement}

@@ -1,4 +1,3 @@
--- `decisions::turns::count_one` meets its contract. In each arm the case is known, and the callees give the rest. Assumes nothing.
 use borrow.Author.Needs.{needs}
 use Rattle.decisions.proofs.turns.count_one.Statement.{statement}
 use Rattle.decisions.proofs.turns.count_one.Tie as tie

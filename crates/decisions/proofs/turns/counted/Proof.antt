@@ -1,4 +1,3 @@
--- `decisions::turns::counted` meets its contract. The definition computes to what the code makes. Assumes nothing.
 use native.Mathlib.Omega.{arith}
 use borrow.Author.Needs.{needs}
 use Rattle.decisions.proofs.turns.counted.Statement.{statement}

@@ -1,4 +1,3 @@
--- `decisions::turns::trip_places` meets its contract. In each arm the case is known, and the callees give the rest. Assumes nothing.
 use borrow.Author.Needs.{needs}
 use Rattle.decisions.proofs.turns.trip_places.Statement.{statement}
 use Rattle.decisions.proofs.turns.trip_places.Tie as tie

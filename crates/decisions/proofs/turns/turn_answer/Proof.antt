@@ -1,4 +1,3 @@
--- `decisions::turns::turn_answer` meets its contract. In each arm the case is known, and the callees give the rest. Assumes nothing.
 use borrow.Author.Needs.{needs}
 use Rattle.decisions.proofs.turns.turn_answer.Statement.{statement}
 use Rattle.decisions.proofs.turns.turn_answer.Tie as tie

@@ -1,4 +1,3 @@
--- `decisions::turns::turn_seen` meets its contract. In each arm the case is known, and the callees give the rest. Assumes nothing.
 use borrow.Author.Needs.{needs}
 use Rattle.decisions.proofs.turns.turn_seen.Statement.{statement}
 use Rattle.decisions.proofs.turns.turn_seen.Tie as tie

@@ -1,4 +1,3 @@
--- `deliveries::delivered::answered_at` meets its contract. What its callees ensure, put together, is the definition. Assumes nothing.
 use borrow.Author.Needs.{needs}
 use Rattle.deliveries.proofs.delivered.answered_at.Statement.{statement}
 use Rattle.deliveries.proofs.delivered.answered_at.Tie as tie

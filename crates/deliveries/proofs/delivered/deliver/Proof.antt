@@ -1,4 +1,3 @@
--- `deliveries::delivered::deliver` meets its contract. In each arm the case is known, and the callees give the rest. Assumes nothing.
 use borrow.Author.Needs.{needs}
 use Rattle.rules.specs.Calls.{deliverBodyOf}
 use Rattle.deliveries.proofs.delivered.deliver.Statement.{statement}

@@ -1,4 +1,4 @@
--- `deliveries::dropped::drop` meets its contract: the checks are tried in the order of the definition's list, and what is left is what its parts make.
+-- `deliveries::dropped::drop` meets its contract: its checks are tried in the order of the definition's list, and so it is settled as that says.
 use borrow.Author.Needs.{needs}
 use Rattle.rules.specs.Calls.{dropOf}
 use Rattle.checks.specs.OrderLaws.{settled-first}

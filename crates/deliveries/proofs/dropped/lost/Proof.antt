@@ -1,4 +1,3 @@
--- `deliveries::dropped::lost` meets its contract. What its callees ensure, put together, is the definition. Assumes nothing.
 use borrow.Author.Needs.{needs}
 use Rattle.deliveries.proofs.dropped.lost.Statement.{statement}
 use Rattle.deliveries.proofs.dropped.lost.Tie as tie

@@ -1,4 +1,3 @@
--- `machine::whole::head` meets its contract. What its callees ensure, put together, is the definition. Assumes nothing.
 use Rattle.rules.specs.RangesLaws.{placed-places}
 use Rattle.rules.specs.Machine.{placesOf}
 use Rattle.decisions.specs.TurnsLaws.{sane-at}

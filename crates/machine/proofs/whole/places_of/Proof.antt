@@ -1,4 +1,3 @@
--- `machine::whole::places_of` meets its contract. What its callees ensure, put together, is the definition. Assumes nothing.
 use borrow.Author.Needs.{needs}
 use Rattle.rules.specs.Machine.{placesOf, lowestEmpty}
 use Rattle.machine.proofs.whole.places_of.Statement.{statement}

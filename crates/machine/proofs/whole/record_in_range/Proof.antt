@@ -1,4 +1,3 @@
--- `machine::whole::record_in_range` meets its contract. In each arm the case is known, and the callees give the rest. Assumes nothing.
 use borrow.Author.Needs.{needs}
 use Rattle.rules.specs.Record.{recordInRangeOf}
 use Rattle.machine.proofs.whole.record_in_range.Statement.{statement}

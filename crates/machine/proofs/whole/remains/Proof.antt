@@ -1,4 +1,3 @@
--- `machine::whole::remains` meets its contract. What its callees ensure, put together, is the definition. Assumes nothing.
 use borrow.Author.Needs.{needs}
 use Rattle.rules.specs.Machine.{remains}
 use Rattle.machine.proofs.whole.remains.Statement.{statement}

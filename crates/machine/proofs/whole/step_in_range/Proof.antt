@@ -1,4 +1,3 @@
--- `machine::whole::step_in_range` meets its contract. What its callees ensure, put together, is the definition. Assumes nothing.
 use Rattle.decisions.specs.TurnsLaws.{turn-count-most, trip-starts}
 use borrow.Author.Needs.{needs}
 use Rattle.rules.specs.Machine.{stepInRangeOf}

@@ -1,4 +1,3 @@
--- `machine::whole::store` meets its contract. The definition computes to what the code makes. Assumes nothing.
 use mathlib.Core.Path.{refl}
 use borrow.Author.Needs.{needs}
 use Rattle.rules.specs.Machine.{stored}

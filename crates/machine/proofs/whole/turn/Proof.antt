@@ -1,4 +1,3 @@
--- `machine::whole::turn` meets its contract. What its callees ensure, put together, is the definition. Assumes nothing.
 use Rattle.decisions.specs.TurnsLaws.{placed-trip, turn-is-made}
 use borrow.Author.Needs.{needs}
 use Rattle.machine.proofs.whole.turn.Statement.{statement}

@@ -1,4 +1,3 @@
--- `parts::objects::freed` meets its contract. What its callees ensure, put together, is the definition. Assumes nothing.
 use borrow.Author.Needs.{needs}
 use Rattle.parts.proofs.objects.freed.Statement.{statement}
 use Rattle.parts.proofs.objects.freed.Tie as tie

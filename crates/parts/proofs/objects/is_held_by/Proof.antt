@@ -1,4 +1,3 @@
--- `parts::objects::is_held_by` meets its contract. In each arm the case is known, and the definition computes there. Assumes nothing.
 use borrow.Author.Needs.{needs}
 use Rattle.parts.proofs.objects.is_held_by.Statement.{statement}
 use Rattle.parts.proofs.objects.is_held_by.Tie as tie

@@ -1,4 +1,3 @@
--- `parts::objects::operated` meets its contract. The definition computes to what the code makes. Assumes nothing.
 use borrow.Author.Needs.{needs}
 use Rattle.parts.proofs.objects.operated.Statement.{statement}
 use Rattle.parts.proofs.objects.operated.Tie as tie

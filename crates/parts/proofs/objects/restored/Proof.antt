@@ -1,4 +1,3 @@
--- `parts::objects::restored` meets its contract. What its callees ensure, put together, is the definition. Assumes nothing.
 use borrow.Author.Needs.{needs}
 use Rattle.parts.proofs.objects.restored.Statement.{statement}
 use Rattle.parts.proofs.objects.restored.Tie as tie

@@ -1,4 +1,3 @@
--- `parts::objects::taken` meets its contract. In each arm the case is known, and the definition computes there. Assumes nothing.
 use borrow.Author.Needs.{needs}
 use Rattle.parts.proofs.objects.taken.Statement.{statement}
 use Rattle.parts.proofs.objects.taken.Tie as tie

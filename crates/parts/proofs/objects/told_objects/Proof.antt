@@ -1,4 +1,3 @@
--- `parts::objects::told_objects` meets its contract. In each arm the case is known, and the callees give the rest. Assumes nothing.
 use borrow.Author.Needs.{needs}
 use Rattle.parts.proofs.objects.told_objects.Statement.{statement}
 use Rattle.parts.proofs.objects.told_objects.Tie as tie

@@ -1,4 +1,3 @@
--- `parts::passages::aborted_passage` meets its contract. What its callees ensure, put together, is the definition. Assumes nothing.
 use borrow.Author.Needs.{needs}
 use Rattle.parts.proofs.passages.aborted_passage.Statement.{statement}
 use Rattle.parts.proofs.passages.aborted_passage.Tie as tie

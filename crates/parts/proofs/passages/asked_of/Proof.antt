@@ -1,4 +1,3 @@
--- `parts::passages::asked_of` meets its contract. In each arm the case is known, and the definition computes there. Assumes nothing.
 use borrow.Author.Needs.{needs}
 use Rattle.parts.proofs.passages.asked_of.Statement.{statement}
 use Rattle.parts.proofs.passages.asked_of.Tie as tie

@@ -1,4 +1,3 @@
--- `parts::rounds::answer_count` meets its contract. The definition computes to what the code makes. Assumes nothing.
 use borrow.Author.Needs.{needs}
 use Rattle.rules.specs.Parts.{answerCount}
 use Rattle.parts.proofs.Eight.{ones-of-byte}

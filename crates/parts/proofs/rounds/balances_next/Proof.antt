@@ -1,4 +1,3 @@
--- `parts::rounds::balances_next` meets its contract. What its callees ensure, put together, is the definition. Assumes nothing.
 use borrow.Author.Needs.{needs}
 use Rattle.parts.proofs.Eight.{most-of-eight}
 use Rattle.parts.proofs.rounds.balances_next.Statement.{statement}

@@ -1,4 +1,3 @@
--- `parts::rounds::no_round` meets its contract. What its callees ensure, put together, is the definition. Assumes nothing.
 use borrow.Author.Needs.{needs}
 use Rattle.parts.proofs.rounds.no_round.Statement.{statement}
 use Rattle.parts.proofs.rounds.no_round.Tie as tie

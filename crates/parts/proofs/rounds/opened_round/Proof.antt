@@ -1,4 +1,3 @@
--- `parts::rounds::opened_round` meets its contract. What its callees ensure, put together, is the definition. Assumes nothing.
 use borrow.Author.Needs.{needs}
 use Rattle.parts.proofs.rounds.opened_round.Statement.{statement}
 use Rattle.parts.proofs.rounds.opened_round.Tie as tie

@@ -1,4 +1,3 @@
--- `parts::rounds::received_by` meets its contract. What its callees ensure, put together, is the definition. Assumes nothing.
 use borrow.Author.Needs.{needs}
 use Rattle.parts.proofs.rounds.received_by.Statement.{statement}
 use Rattle.parts.proofs.rounds.received_by.Tie as tie

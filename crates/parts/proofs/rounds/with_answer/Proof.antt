@@ -1,4 +1,3 @@
--- `parts::rounds::with_answer` meets its contract. The definition computes to what the code makes. Assumes nothing.
 use borrow.Author.Needs.{needs}
 use Rattle.parts.proofs.Eight.{bit-fits}
 use Rattle.parts.proofs.rounds.with_answer.Statement.{statement}

@@ -1,4 +1,3 @@
--- `parts::visits::quieted` meets its contract. What its callees ensure, put together, is the definition. Assumes nothing.
 use borrow.Author.Needs.{needs}
 use Rattle.parts.proofs.visits.quieted.Statement.{statement}
 use Rattle.parts.proofs.visits.quieted.Tie as tie

@@ -1,4 +1,3 @@
--- `parts::visits::told_visit` meets its contract. In each arm the case is known, and the callees give the rest. Assumes nothing.
 use borrow.Author.Needs.{needs}
 use Rattle.parts.proofs.visits.told_visit.Statement.{statement}
 use Rattle.parts.proofs.visits.told_visit.Tie as tie

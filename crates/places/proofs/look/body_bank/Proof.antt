@@ -1,4 +1,3 @@
--- `places::look::body_bank` meets its contract. In each arm the case is known, and the definition computes there. Assumes nothing.
 use borrow.Author.Needs.{needs}
 use Rattle.places.proofs.look.body_bank.Statement.{statement}
 use Rattle.places.proofs.look.body_bank.Tie as tie

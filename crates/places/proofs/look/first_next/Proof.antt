@@ -1,4 +1,3 @@
--- `places::look::first_next` meets its contract. What its callees ensure, put together, is the definition. Assumes nothing.
 use borrow.Author.Needs.{needs}
 use borrow.Author.Tests.{eq-eqb, ne-eqb}
 use Rattle.places.proofs.look.first_next.Statement.{statement}

@@ -1,4 +1,3 @@
--- `places::look::here_or_next` meets its contract. The definition computes to what the code makes. Assumes nothing.
 use borrow.Author.Needs.{needs}
 use Rattle.places.proofs.look.here_or_next.Statement.{statement}
 use Rattle.places.proofs.look.here_or_next.Tie as tie

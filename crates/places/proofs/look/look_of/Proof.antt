@@ -1,4 +1,3 @@
--- `places::look::look_of` meets its contract. In each arm the case is known, and the callees give the rest. Assumes nothing.
 use borrow.Author.Needs.{needs}
 use Rattle.places.proofs.look.look_of.Statement.{statement}
 use Rattle.places.proofs.look.look_of.Tie as tie

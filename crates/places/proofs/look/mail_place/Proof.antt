@@ -1,4 +1,3 @@
--- `places::look::mail_place` meets its contract. In each arm the case is known, and the callees give the rest. Assumes nothing.
 use borrow.Author.Needs.{needs}
 use Rattle.places.proofs.look.mail_place.Statement.{statement}
 use Rattle.places.proofs.look.mail_place.Tie as tie

@@ -1,4 +1,3 @@
--- `places::look::site_place` meets its contract. In each arm the case is known, and the definition computes there. Assumes nothing.
 use borrow.Author.Needs.{needs}
 use Rattle.places.proofs.look.site_place.Statement.{statement}
 use Rattle.places.proofs.look.site_place.Tie as tie

@@ -1,4 +1,3 @@
--- `reading::reader::byte_read` meets its contract. What its callees ensure, put together with the tests that were taken, is the definition. Assumes nothing.
 use borrow.Author.Tests.{lt-ltb, le-ltb}
 use borrow.Author.Needs.{needs}
 use Rattle.reading.proofs.reader.byte_read.Statement.{statement}

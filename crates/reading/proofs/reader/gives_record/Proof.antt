@@ -1,4 +1,3 @@
--- `reading::reader::gives_record` meets its contract. What its callees ensure, put together with the tests that were taken, is the definition. Assumes nothing.
 use Rattle.words.specs.Scan.{givesRecord}
 use borrow.Author.Needs.{needs}
 use Rattle.reading.proofs.reader.gives_record.Statement.{statement}

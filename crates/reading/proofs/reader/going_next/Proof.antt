@@ -1,4 +1,3 @@
--- `reading::reader::going_next` meets its contract. What its callees ensure, put together with the tests that were taken, is the definition. Assumes nothing.
 use borrow.Author.Tests.{ne-eqb}
 use borrow.Author.Needs.{needs}
 use Rattle.reading.proofs.reader.going_next.Statement.{statement}

@@ -1,4 +1,3 @@
--- `reading::reader::judged` meets its contract. What its callees ensure, put together with the tests that were taken, is the definition. Assumes nothing.
 use borrow.Author.Needs.{needs}
 use Rattle.reading.proofs.reader.judged.Statement.{statement}
 use Rattle.reading.proofs.reader.judged.Tie as tie

@@ -1,4 +1,3 @@
--- `reading::reader::reader_next` meets its contract. What its callees ensure, put together with the tests that were taken, is the definition. Assumes nothing.
 use Rattle.words.specs.Scan.{readerNext}
 use borrow.Author.Needs.{needs}
 use Rattle.reading.proofs.reader.reader_next.Statement.{statement}

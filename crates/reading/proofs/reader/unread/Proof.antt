@@ -1,4 +1,3 @@
--- `reading::reader::unread` meets its contract. What its callees ensure, put together with the tests that were taken, is the definition. Assumes nothing.
 use borrow.Author.Needs.{needs}
 use Rattle.reading.proofs.reader.unread.Statement.{statement}
 use Rattle.reading.proofs.reader.unread.Tie as tie

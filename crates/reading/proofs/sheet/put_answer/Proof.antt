@@ -1,4 +1,3 @@
--- `reading::sheet::put_answer` meets its contract. What its callees ensure, put together with the tests that were taken, is the definition. Assumes nothing.
 use Rattle.reading.proofs.Phrases.{sheet-taken, refused-puts}
 use Rattle.lines.specs.Text.{put-both}
 use Rattle.words.specs.Sheets.{trailerOf, answerText}
@@ -15,10 +14,18 @@ use Rattle.reading.proofs.sheet.put_answer.Statement.{statement}
 use Rattle.reading.proofs.sheet.put_answer.Tie as tie
 
 returns : tie.Need-returns
-returns c = let e : textRead (c .before .before .before .before .before .before .before .before .before .args .text .now) .reader .stop ≡ Stop.Going = ap (λ (r : Reader). r .stop) (sym (c .before .before .before .before .before .before .before .read-text .ensures)) ∙ c .before .before .before .before .enum-told .given .1 in let a : c .before .before .put-records .result ≡ length (textRead (c .before .before .before .before .before .before .before .before .before .args .text .now) .records) = omega (arith, c .before .before .put-records .ensures .0 .ends) in let q : textRead (c .before .before .before .before .before .before .before .before .before .args .text .now) .records ++ trailerOf (c .before .before .put-records .result) ≡ answerText (c .before .before .before .before .before .before .before .before .before .args .text .now) = rw a (sheet-taken (c .before .before .before .before .before .before .before .before .before .args .text .now) e) in let l : length (c .before .before .before .before .before .before .before .before .before .args .out .now) ≡ 65536 = search needs in let x = c .put-trailer .ensures .ends in (rw q at (put-both zero-le (c .before .before .put-records .ensures .0) (c .put-trailer .ensures)), omega (arith, c .put-trailer .kept .0, c .before .before .put-records .kept .1 .0))
+returns c =
+    let e : textRead (c .before .before .before .before .before .before .before .before .before .args .text .now) .reader .stop ≡ Stop.Going = ap (λ (r : Reader). r .stop) (sym (c .before .before .before .before .before .before .before .read-text .ensures)) ∙ c .before .before .before .before .enum-told .given .1 in
+    let a : c .before .before .put-records .result ≡ length (textRead (c .before .before .before .before .before .before .before .before .before .args .text .now) .records) = omega (arith, c .before .before .put-records .ensures .0 .ends) in
+    let q : textRead (c .before .before .before .before .before .before .before .before .before .args .text .now) .records ++ trailerOf (c .before .before .put-records .result) ≡ answerText (c .before .before .before .before .before .before .before .before .before .args .text .now) = rw a (sheet-taken (c .before .before .before .before .before .before .before .before .before .args .text .now) e) in
+    let l : length (c .before .before .before .before .before .before .before .before .before .args .out .now) ≡ 65536 = search needs in
+    let x = c .put-trailer .ensures .ends in
+    (rw q at (put-both zero-le (c .before .before .put-records .ensures .0) (c .put-trailer .ensures)), omega (arith, c .put-trailer .kept .0, c .before .before .put-records .kept .1 .0))
 
 returns-2 : tie.Need-returns-2
-returns-2 c = let l : length (c .before .before .before .before .before .before .before .before .args .out .now) ≡ 65536 = search needs in refused-puts (c .before .before .before .before .before .before .before .before .args .text .now) (c .before .before .before .before .before .before .read-text .result) (c .before .before .before .before .before .before .read-text .ensures) l (c .before .before .before .stop .given .1) (c .put-fault-line .ensures) (c .put-fault-line .kept .0)
+returns-2 c =
+    let l : length (c .before .before .before .before .before .before .before .before .args .out .now) ≡ 65536 = search needs in
+    refused-puts (c .before .before .before .before .before .before .before .before .args .text .now) (c .before .before .before .before .before .before .read-text .result) (c .before .before .before .before .before .before .read-text .ensures) l (c .before .before .before .stop .given .1) (c .put-fault-line .ensures) (c .put-fault-line .kept .0)
 
 pub put-answer-spec : {M : Type 1} → statement M
 put-answer-spec =

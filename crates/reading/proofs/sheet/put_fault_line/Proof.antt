@@ -1,4 +1,3 @@
--- `reading::sheet::put_fault_line` meets its contract. What its callees ensure, put together with the tests that were taken, is the definition. Assumes nothing.
 use Rattle.reading.proofs.Phrases.{phrase-length}
 use Rattle.words.specs.TextLaws.{digits-length}
 use Rattle.lines.specs.Text.{put-both}

@@ -1,4 +1,3 @@
--- `reading::sheet::put_phrase` meets its contract. What its callees ensure, put together with the tests that were taken, is the definition. Assumes nothing.
 use borrow.Author.Needs.{needs}
 use Rattle.reading.proofs.sheet.put_phrase.Statement.{statement}
 use Rattle.reading.proofs.sheet.put_phrase.Tie as tie

@@ -26,7 +26,9 @@ put-given-requires : tie.Need-put-given-requires Inv-loop μ-loop
 put-given-requires c κs = (c .before .before .before .loop .inv .2, omega arith)
 
 loop-again : tie.Need-loop-again Inv-loop μ-loop
-loop-again c = let q : readAll unread (take (c .before .before .before .before .before .before .before .loop .i) (c .before .before .before .before .before .before .before .before .before .before .before .args .text .now)) .records ++ given (c .before .before .before .before .before .before .before .loop .r) (getD (c .before .before .before .before .before .before .before .before .before .before .before .args .text .now) (c .before .before .before .before .before .before .before .loop .i) 0) ≡ readAll unread (take (c .before .before .before .before .before .before .before .loop .i + 1) (c .before .before .before .before .before .before .before .before .before .before .before .args .text .now)) .records = rw (c .before .before .before .before .before .before .before .loop .inv .0) (records-more unread (c .before .before .before .before .before .before .before .before .before .before .before .args .text .now) (c .before .before .before .before .before .before .before .loop .i) (search needs)) in (rw (c .reader-next .ensures, c .before .before .before .before .before .before .before .loop .inv .0) (reader-more unread (c .before .before .before .before .before .before .before .before .before .before .before .args .text .now) (c .before .before .before .before .before .before .before .loop .i) (search needs)), rw q at (put-both zero-le (c .before .before .before .before .before .before .before .loop .inv .1) (c .before .before .before .put-given .ensures .0)), rw (c .reader-next .ensures) (c .before .before .before .put-given .ensures .1), rw (c .reader-next .ensures) (count-most (c .before .before .before .before .before .before .before .loop .r) (getD (c .before .before .before .before .before .before .before .before .before .before .before .args .text .now) (c .before .before .before .before .before .before .before .loop .i) 0) (c .before .before .before .before .before .before .before .loop .inv .3)), omega arith, c .before .before .before .put-given .kept .1 .1 .0 ∙ c .before .before .before .before .before .before .before .loop .inv .5)
+loop-again c =
+    let q : readAll unread (take (c .before .before .before .before .before .before .before .loop .i) (c .before .before .before .before .before .before .before .before .before .before .before .args .text .now)) .records ++ given (c .before .before .before .before .before .before .before .loop .r) (getD (c .before .before .before .before .before .before .before .before .before .before .before .args .text .now) (c .before .before .before .before .before .before .before .loop .i) 0) ≡ readAll unread (take (c .before .before .before .before .before .before .before .loop .i + 1) (c .before .before .before .before .before .before .before .before .before .before .before .args .text .now)) .records = rw (c .before .before .before .before .before .before .before .loop .inv .0) (records-more unread (c .before .before .before .before .before .before .before .before .before .before .before .args .text .now) (c .before .before .before .before .before .before .before .loop .i) (search needs)) in
+    (rw (c .reader-next .ensures, c .before .before .before .before .before .before .before .loop .inv .0) (reader-more unread (c .before .before .before .before .before .before .before .before .before .before .before .args .text .now) (c .before .before .before .before .before .before .before .loop .i) (search needs)), rw q at (put-both zero-le (c .before .before .before .before .before .before .before .loop .inv .1) (c .before .before .before .put-given .ensures .0)), rw (c .reader-next .ensures) (c .before .before .before .put-given .ensures .1), rw (c .reader-next .ensures) (count-most (c .before .before .before .before .before .before .before .loop .r) (getD (c .before .before .before .before .before .before .before .before .before .before .before .args .text .now) (c .before .before .before .before .before .before .before .loop .i) 0) (c .before .before .before .before .before .before .before .loop .inv .3)), omega arith, c .before .before .before .put-given .kept .1 .1 .0 ∙ c .before .before .before .before .before .before .before .loop .inv .5)
 
 put-given-requires-2 : tie.Need-put-given-requires-2 Inv-loop μ-loop
 put-given-requires-2 c κs = (c .before .before .loop .inv .2, omega arith)
@@ -35,7 +37,10 @@ same-length : tie.Need-same-length Inv-loop μ-loop
 same-length c = c .before .before .put-given2 .kept .1 .1 .0 ∙ c .before .before .before .before .before .loop .inv .5
 
 returns : tie.Need-returns Inv-loop μ-loop
-returns c = let e : c .before .before .before .before .before .loop .i ≡ length (c .before .before .before .before .before .before .before .before .before .args .text .now) = omega arith in let q : readAll unread (take (c .before .before .before .before .before .loop .i) (c .before .before .before .before .before .before .before .before .before .args .text .now)) .records ++ given (c .before .before .before .before .before .loop .r) 10 ≡ textRead (c .before .before .before .before .before .before .before .before .before .args .text .now) .records = rw (c .before .before .before .before .before .loop .inv .0, e, take-length (c .before .before .before .before .before .before .before .before .before .args .text .now)) (records-whole (c .before .before .before .before .before .before .before .before .before .args .text .now)) in (rw q at (put-both zero-le (c .before .before .before .before .before .loop .inv .1) (c .before .before .put-given2 .ensures .0)), rw (c .before .before .put-given2 .ensures .1) (let m = count-most (c .before .before .before .before .before .loop .r) 10 (c .before .before .before .before .before .loop .inv .3) in omega (arith, m)))
+returns c =
+    let e : c .before .before .before .before .before .loop .i ≡ length (c .before .before .before .before .before .before .before .before .before .args .text .now) = omega arith in
+    let q : readAll unread (take (c .before .before .before .before .before .loop .i) (c .before .before .before .before .before .before .before .before .before .args .text .now)) .records ++ given (c .before .before .before .before .before .loop .r) 10 ≡ textRead (c .before .before .before .before .before .before .before .before .before .args .text .now) .records = rw (c .before .before .before .before .before .loop .inv .0, e, take-length (c .before .before .before .before .before .before .before .before .before .args .text .now)) (records-whole (c .before .before .before .before .before .before .before .before .before .args .text .now)) in
+    (rw q at (put-both zero-le (c .before .before .before .before .before .loop .inv .1) (c .before .before .put-given2 .ensures .0)), rw (c .before .before .put-given2 .ensures .1) (let m = count-most (c .before .before .before .before .before .loop .r) 10 (c .before .before .before .before .before .loop .inv .3) in omega (arith, m)))
 
 pub put-records-spec : {M : Type 1} → statement M
 put-records-spec =

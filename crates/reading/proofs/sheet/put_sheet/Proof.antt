@@ -1,4 +1,3 @@
--- `reading::sheet::put_sheet` meets its contract. In each arm the case is known, and the callees give the rest. Assumes nothing.
 use Rattle.words.specs.Sheets.{sheetText}
 use lib.ListN.{length}
 use mathlib.Core.Path.{_≡_}
@@ -10,7 +9,10 @@ use Rattle.reading.proofs.sheet.put_sheet.Tie as tie
 
 returns : tie.Need-returns
 unfolding sheetText
-returns c = let l : length (c .before .before .before .before .before .args .out .now) ≡ 65536 = search needs in let x = c .put-text .ensures .ends in (rw (lt-ltb 524288 (length (c .before .before .before .before .before .args .text .now)) (c .before .before .before .if1 .taken)) (c .put-text .ensures), omega (arith, c .put-text .kept .0))
+returns c =
+    let l : length (c .before .before .before .before .before .args .out .now) ≡ 65536 = search needs in
+    let x = c .put-text .ensures .ends in
+    (rw (lt-ltb 524288 (length (c .before .before .before .before .before .args .text .now)) (c .before .before .before .if1 .taken)) (c .put-text .ensures), omega (arith, c .put-text .kept .0))
 
 returns-2 : tie.Need-returns-2
 unfolding sheetText

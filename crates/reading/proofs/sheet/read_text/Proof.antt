@@ -24,7 +24,9 @@ loop-again : tie.Need-loop-again Inv-loop μ-loop
 loop-again c = (rw (c .reader-next .ensures, c .before .before .before .loop .inv .0) (reader-more unread (c .before .before .before .before .before .before .args .text .now) (c .before .before .before .loop .i) (search needs)), search needs)
 
 returns : tie.Need-returns Inv-loop μ-loop
-returns c = let e : c .before .before .loop .i ≡ length (c .before .before .before .before .before .args .text .now) = omega arith in rw (c .reader-next2 .ensures, c .before .before .loop .inv .0, e, take-length (c .before .before .before .before .before .args .text .now)) (reader-whole (c .before .before .before .before .before .args .text .now))
+returns c =
+    let e : c .before .before .loop .i ≡ length (c .before .before .before .before .before .args .text .now) = omega arith in
+    rw (c .reader-next2 .ensures, c .before .before .loop .inv .0, e, take-length (c .before .before .before .before .before .args .text .now)) (reader-whole (c .before .before .before .before .before .args .text .now))
 
 pub read-text-spec : {M : Type 1} → statement M
 read-text-spec =

@@ -1,4 +1,3 @@
--- `saying::line::hex_digit` meets its contract. What its callees ensure, put together with the tests that were taken, is the definition. Assumes nothing.
 use borrow.Author.Tests.{lt-ltb, le-ltb}
 use borrow.Author.Needs.{needs}
 use Rattle.saying.proofs.line.hex_digit.Statement.{statement}

@@ -24,13 +24,21 @@ unfolding hexText
 loop-holds c = (put-none (c .before .args .out .now) (c .before .args .at), omega arith, search needs, refl)
 
 loop-again : tie.Need-loop-again Inv-loop μ-loop
-loop-again c = let e = c .before .before .put-hex .ensures .ends in let t = hex-length (getD (c .before .before .before .before .before .before .before .args .t3) (c .before .before .before .before .before .loop .i) 0 ∷ []) in let l : c .before .before .before .before .before .before .before .args .at ≤ length (c .before .before .before .before .before .before .before .args .out .now) = omega arith in let z : length (c .before .before .before .before .before .before .before .args .t3) ≡ 16 = search needs in (rw (bytes-more (c .before .before .before .before .before .before .before .args .t3) (c .before .before .before .before .before .loop .i) (omega arith)) at (put-both l (c .before .before .before .before .before .loop .inv .0) (c .before .before .put-hex .ensures)), omega (arith, t), omega arith, c .before .before .put-hex .kept .0 ∙ c .before .before .before .before .before .loop .inv .3)
+loop-again c =
+    let e = c .before .before .put-hex .ensures .ends in
+    let t = hex-length (getD (c .before .before .before .before .before .before .before .args .t3) (c .before .before .before .before .before .loop .i) 0 ∷ []) in
+    let l : c .before .before .before .before .before .before .before .args .at ≤ length (c .before .before .before .before .before .before .before .args .out .now) = omega arith in
+    let z : length (c .before .before .before .before .before .before .before .args .t3) ≡ 16 = search needs in
+    (rw (bytes-more (c .before .before .before .before .before .before .before .args .t3) (c .before .before .before .before .before .loop .i) (omega arith)) at (put-both l (c .before .before .before .before .before .loop .inv .0) (c .before .before .put-hex .ensures)), omega (arith, t), omega arith, c .before .before .put-hex .kept .0 ∙ c .before .before .before .before .before .loop .inv .3)
 
 same-length : tie.Need-same-length Inv-loop μ-loop
 same-length c = c .before .loop .inv .3
 
 returns : tie.Need-returns Inv-loop μ-loop
-returns c = let e : c .before .loop .i ≡ 16 = omega arith in let z : length (c .before .before .before .args .t3) ≡ 16 = search needs in rw (e, take-all 16 (c .before .before .before .args .t3) (omega arith)) at (c .before .loop .inv .0)
+returns c =
+    let e : c .before .loop .i ≡ 16 = omega arith in
+    let z : length (c .before .before .before .args .t3) ≡ 16 = search needs in
+    rw (e, take-all 16 (c .before .before .before .args .t3) (omega arith)) at (c .before .loop .inv .0)
 
 pub put-bytes-spec : {M : Type 1} → statement M
 put-bytes-spec =

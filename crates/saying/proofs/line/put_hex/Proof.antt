@@ -1,4 +1,3 @@
--- `saying::line::put_hex` meets its contract. What its callees ensure, put together with the tests that were taken, is the definition. Assumes nothing.
 use Rattle.words.specs.Say.{hexText}
 use Rattle.lines.specs.Text.{put-both}
 use lib.ListN.{length}
@@ -10,7 +9,9 @@ use Rattle.saying.proofs.line.put_hex.Tie as tie
 
 returns : tie.Need-returns
 unfolding hexText
-returns c = let l : c .before .before .before .before .before .before .before .before .before .before .before .args .at ≤ length (c .before .before .before .before .before .before .before .before .before .before .before .args .out .now) = omega arith in rw (← c .before .before .before .before .before .before .before .before .before .hex-digit .ensures, ← c .before .before .before .before .before .before .before .before .hex-digit2 .ensures) (put-both l (c .before .before .before .before .before .before .put-byte .ensures) (c .before .before .put-byte2 .ensures))
+returns c =
+    let l : c .before .before .before .before .before .before .before .before .before .before .before .args .at ≤ length (c .before .before .before .before .before .before .before .before .before .before .before .args .out .now) = omega arith in
+    rw (← c .before .before .before .before .before .before .before .before .before .hex-digit .ensures, ← c .before .before .before .before .before .before .before .before .hex-digit2 .ensures) (put-both l (c .before .before .before .before .before .before .put-byte .ensures) (c .before .before .put-byte2 .ensures))
 
 pub put-hex-spec : {M : Type 1} → statement M
 put-hex-spec =

@@ -1,4 +1,3 @@
--- `saying::line::put_raw` meets its contract. What its callees ensure, put together with the tests that were taken, is the definition. Assumes nothing.
 use Rattle.words.specs.Say.{rawText}
 use Rattle.words.specs.TextLaws.{letters-length}
 use Rattle.lines.specs.Text.{put-both}
@@ -17,7 +16,10 @@ put-bytes-requires c κs = omega (arith, letters-length 9 18487)
 
 returns : tie.Need-returns
 unfolding rawText
-returns c = let l : c .before .before .before .before .before .before .before .before .before .before .before .before .before .args .at ≤ length (c .before .before .before .before .before .before .before .before .before .before .before .before .before .args .out .now) = omega arith in let k : c .before .before .before .before .before .before .before .before .before .before .put-letters .result ≤ length (c .before .before .before .before .before .before .before .before .before .before .put-letters .last .0) = omega (arith, letters-length 9 18487) in put-both l (c .before .before .before .before .before .before .before .before .before .before .put-letters .ensures) (put-both k (c .before .before .before .before .before .before .put-byte .ensures) (c .before .before .put-bytes .ensures))
+returns c =
+    let l : c .before .before .before .before .before .before .before .before .before .before .before .before .before .args .at ≤ length (c .before .before .before .before .before .before .before .before .before .before .before .before .before .args .out .now) = omega arith in
+    let k : c .before .before .before .before .before .before .before .before .before .before .put-letters .result ≤ length (c .before .before .before .before .before .before .before .before .before .before .put-letters .last .0) = omega (arith, letters-length 9 18487) in
+    put-both l (c .before .before .before .before .before .before .before .before .before .before .put-letters .ensures) (put-both k (c .before .before .before .before .before .before .put-byte .ensures) (c .before .before .put-bytes .ensures))
 
 pub put-raw-spec : {M : Type 1} → statement M
 put-raw-spec =

@@ -1,4 +1,3 @@
--- `saying::line::put_record` meets its contract. What its callees ensure, put together with the tests that were taken, is the definition. Assumes nothing.
 use Rattle.words.specs.Say.{recordText}
 use borrow.Author.Needs.{needs}
 use Rattle.saying.proofs.line.put_record.Statement.{statement}

@@ -22,13 +22,19 @@ loop-holds : tie.Need-loop-holds Inv-loop μ-loop
 loop-holds c = (put-none (c .before .args .out .now) (c .before .args .at), omega arith, search needs, refl)
 
 loop-again : tie.Need-loop-again Inv-loop μ-loop
-loop-again c = let l : c .before .before .before .before .before .before .before .before .args .at ≤ length (c .before .before .before .before .before .before .before .before .args .out .now) = omega arith in let z : length (c .before .before .before .before .before .before .before .before .args .t3) ≡ 9 = search needs in let q = pieces-put (c .before .before .before .before .before .before .before .before .args .t3) (c .before .before .before .before .before .before .loop .i) (record { word = false; value = 0 }) l (omega arith) (c .before .before .before .before .before .before .loop .inv .1) (c .before .before .before .before .before .before .loop .inv .0) (c .before .before .put-token .ensures) in (q .0, q .1, omega arith, c .before .before .put-token .kept .0 ∙ c .before .before .before .before .before .before .loop .inv .3)
+loop-again c =
+    let l : c .before .before .before .before .before .before .before .before .args .at ≤ length (c .before .before .before .before .before .before .before .before .args .out .now) = omega arith in
+    let z : length (c .before .before .before .before .before .before .before .before .args .t3) ≡ 9 = search needs in
+    let q = pieces-put (c .before .before .before .before .before .before .before .before .args .t3) (c .before .before .before .before .before .before .loop .i) (record { word = false; value = 0 }) l (omega arith) (c .before .before .before .before .before .before .loop .inv .1) (c .before .before .before .before .before .before .loop .inv .0) (c .before .before .put-token .ensures) in
+    (q .0, q .1, omega arith, c .before .before .put-token .kept .0 ∙ c .before .before .before .before .before .before .loop .inv .3)
 
 same-length : tie.Need-same-length Inv-loop μ-loop
 same-length c = c .before .loop .inv .3
 
 returns : tie.Need-returns Inv-loop μ-loop
-returns c = let e : c .before .loop .i ≡ c .before .before .before .args .n = omega arith in rw e at (c .before .loop .inv .0)
+returns c =
+    let e : c .before .loop .i ≡ c .before .before .before .args .n = omega arith in
+    rw e at (c .before .loop .inv .0)
 
 pub put-rest-spec : {M : Type 1} → statement M
 put-rest-spec =

@@ -1,4 +1,3 @@
--- `saying::line::put_step` meets its contract. What its callees ensure, put together with the tests that were taken, is the definition. Assumes nothing.
 use Rattle.words.specs.Say.{stepText}
 use Rattle.words.specs.TextLaws.{letters-length}
 use Rattle.lines.specs.Text.{put-both}
@@ -14,7 +13,9 @@ put-rest-requires c κs = (omega (arith, letters-length 9 (c .before .before .be
 
 returns : tie.Need-returns
 unfolding stepText
-returns c = let l : c .before .before .before .before .before .before .before .before .before .before .before .args .at ≤ length (c .before .before .before .before .before .before .before .before .before .before .before .args .out .now) = omega arith in rw (← c .before .before .before .before .before .before .before .before .before .tokens-of .ensures .first, ← c .before .before .before .before .before .before .before .before .before .tokens-of .ensures .more) (put-both l (c .before .before .before .before .before .before .put-letters .ensures) (c .before .before .put-rest .ensures))
+returns c =
+    let l : c .before .before .before .before .before .before .before .before .before .before .before .args .at ≤ length (c .before .before .before .before .before .before .before .before .before .before .before .args .out .now) = omega arith in
+    rw (← c .before .before .before .before .before .before .before .before .before .tokens-of .ensures .first, ← c .before .before .before .before .before .before .before .before .before .tokens-of .ensures .more) (put-both l (c .before .before .before .before .before .before .put-letters .ensures) (c .before .before .put-rest .ensures))
 
 pub put-step-spec : {M : Type 1} → statement M
 put-step-spec =

@@ -1,4 +1,3 @@
--- `saying::tokens::with_one` meets its contract. What its callees ensure, put together with the tests that were taken, is the definition. Assumes nothing.
 use mathlib.Core.Path.{refl}
 use native.Mathlib.Omega.{arith}
 use borrow.Author.Needs.{needs}

@@ -1,4 +1,3 @@
--- `scanning::fields::most_in` meets its contract. What its callees ensure, put together with the tests that were taken, is the definition. Assumes nothing.
 use borrow.Author.Tests.{ne-eqb}
 use Rattle.scanning.proofs.fields.most_in.Statement.{statement}
 use Rattle.scanning.proofs.fields.most_in.Tie as tie

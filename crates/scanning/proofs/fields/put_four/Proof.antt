@@ -1,4 +1,3 @@
--- `scanning::fields::put_four` meets its contract. What its callees ensure, put together with the tests that were taken, is the definition. Assumes nothing.
 use borrow.Author.Needs.{needs}
 use Rattle.scanning.proofs.fields.put_four.Statement.{statement}
 use Rattle.scanning.proofs.fields.put_four.Tie as tie

@@ -1,4 +1,3 @@
--- `scanning::line::ends_at` meets its contract. What its callees ensure, put together with the tests that were taken, is the definition. Assumes nothing.
 use borrow.Author.Tests.{ne-eqb}
 use borrow.Author.Needs.{needs}
 use Rattle.scanning.proofs.line.ends_at.Statement.{statement}

@@ -1,4 +1,3 @@
--- `scanning::line::filled` meets its contract. What its callees ensure, put together with the tests that were taken, is the definition. Assumes nothing.
 use Rattle.words.specs.Grammar.{mostIn}
 use borrow.Author.Tests.{lt-ltb, le-ltb}
 use borrow.Author.Needs.{needs}

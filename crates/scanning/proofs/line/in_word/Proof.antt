@@ -1,4 +1,3 @@
--- `scanning::line::in_word` meets its contract. What its callees ensure, put together with the tests that were taken, is the definition. Assumes nothing.
 use borrow.Author.Needs.{needs}
 use Rattle.scanning.proofs.line.in_word.Statement.{statement}
 use Rattle.scanning.proofs.line.in_word.Tie as tie

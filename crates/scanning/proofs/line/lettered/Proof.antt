@@ -1,4 +1,3 @@
--- `scanning::line::lettered` meets its contract. What its callees ensure, put together with the tests that were taken, is the definition. Assumes nothing.
 use Prim.Native.Nat.{_≤_}
 use borrow.Author.Tests.{leb-true, lt-ltb, le-ltb}
 use lib.Dec.{leb}
@@ -12,7 +11,9 @@ returns : tie.Need-returns
 returns c = rw (c .wrong .ensures, lt-ltb 36028797018963967 (c .before .before .before .args .s .token) (c .before .if1 .taken))
 
 sub-made : tie.Need-sub-made
-sub-made c = let l : 97 ≤ c .before .before .before .before .args .b = leb-true 97 (c .before .before .before .before .args .b) (and-left (leb 97 (c .before .before .before .before .args .b)) (leb (c .before .before .before .before .args .b) 122) (c .before .before .before .before .pre)) in omega arith
+sub-made c =
+    let l : 97 ≤ c .before .before .before .before .args .b = leb-true 97 (c .before .before .before .before .args .b) (and-left (leb 97 (c .before .before .before .before .args .b)) (leb (c .before .before .before .before .args .b) 122) (c .before .before .before .before .pre)) in
+    omega arith
 
 returns-2 : tie.Need-returns-2
 returns-2 c = rw (c .made .ensures, le-ltb 36028797018963967 (c .before .before .before .before .before .args .s .token) (c .before .before .before .if1 .left))

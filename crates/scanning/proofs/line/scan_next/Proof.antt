@@ -1,4 +1,3 @@
--- `scanning::line::scan_next` meets its contract. What its callees ensure, put together with the tests that were taken, is the definition. Assumes nothing.
 use Rattle.words.specs.Scan.{scanNext}
 use borrow.Author.Needs.{needs}
 use Rattle.scanning.proofs.line.scan_next.Statement.{statement}

@@ -1,4 +1,3 @@
--- `tables::start::free_slot` meets its contract. What its callees ensure, put together, is the definition. Assumes nothing.
 use borrow.Author.Needs.{needs}
 use Rattle.tables.proofs.start.free_slot.Statement.{statement}
 use Rattle.tables.proofs.start.free_slot.Tie as tie

@@ -1,4 +1,3 @@
--- `tables::start::start` meets its contract. What its callees ensure, put together, is the definition. Assumes nothing.
 use borrow.Author.Needs.{needs}
 use Rattle.rules.specs.Tables.{start}
 use Rattle.tables.proofs.start.start.Statement.{statement}
