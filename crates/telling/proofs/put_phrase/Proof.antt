@@ -25,8 +25,7 @@ pub put-phrase-spec : {M : Type 1} → statement M
 put-phrase-spec =
     tie.close
     (tie.spec
-    (λ c κs. search needs)
-    (λ c. search needs)
+    (λ c κs. search needs) (λ c. search needs)
     slice-aggregate-put-text
     put-text-requires
     (λ c. search needs)

@@ -50,11 +50,9 @@ put-plain-spec =
     Inv-loop
     μ-loop
     loop-holds
-    (λ c κs. omega arith)
-    (λ c κs. omega arith)
+    (λ c κs. omega arith) (λ c κs. omega arith)
     put-byte-requires
-    (λ c. search needs)
-    (λ c. search needs)
+    (λ c. search needs) (λ c. search needs)
     loop-again
     same-length
     returns)

@@ -27,10 +27,7 @@ pub put-refused-sheet-spec : {M : Type 1} → statement M
 put-refused-sheet-spec =
     tie.close
     (tie.spec
-    (λ c κs. search needs)
-    (λ c. search needs)
-    (λ c κs. search needs)
-    (λ c κs. search needs)
+    (λ c κs. search needs) (λ c. search needs) (λ c κs. search needs) (λ c κs. search needs)
     put-byte-requires
     put-sheet-phrase-requires
     put-byte-requires-2

@@ -35,9 +35,7 @@ pub tell-plain-spec : {M : Type 1} → statement M
 tell-plain-spec =
     tie.close
     (tie.spec
-    (λ c κs. search needs)
-    (λ c. search needs)
-    (λ c κs. search needs)
+    (λ c κs. search needs) (λ c. search needs) (λ c κs. search needs)
     returns
     (λ c κs. search needs)
     put-plain-requires

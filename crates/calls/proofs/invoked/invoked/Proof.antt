@@ -14,9 +14,7 @@ pub invoked-spec : {M : Type 1} → statement M
 invoked-spec =
     tie.close
     (tie.spec
-    (λ c κs. search needs)
-    (λ c κs. search needs)
-    (λ c. search needs)
+    (λ c κs. search needs) (λ c κs. search needs) (λ c. search needs)
     count-sent-requires
     (λ c κs. search needs)
     returns)

@@ -18,9 +18,7 @@ pub turn-answer-spec : {M : Type 1} → statement M
 turn-answer-spec =
     tie.close
     (tie.spec
-    (λ c. search needs)
-    (λ c. search needs)
-    (λ c κs. search needs)
+    (λ c. search needs) (λ c. search needs) (λ c κs. search needs)
     count-one-requires
     (λ c. search needs)
     returns

@@ -18,7 +18,6 @@ turn-spec =
     (tie.spec
     (λ c κs. search needs)
     see-requires
-    (λ c κs. search needs)
-    (λ c κs. search needs)
+    (λ c κs. search needs) (λ c κs. search needs)
     store-requires
     returns)

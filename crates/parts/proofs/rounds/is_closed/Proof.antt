@@ -41,8 +41,7 @@ is-closed-spec =
     μ-loop
     loop-holds
     balances-next-requires
-    (λ c. search needs)
-    (λ c. search needs)
+    (λ c. search needs) (λ c. search needs)
     loop-again
     (λ c κs. search needs)
     returns)

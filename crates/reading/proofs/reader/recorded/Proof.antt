@@ -13,10 +13,7 @@ pub recorded-spec : {M : Type 1} → statement M
 recorded-spec =
     tie.close
     (tie.spec
-    (λ c κs. search needs)
-    (λ c. search needs)
-    (λ c. search needs)
-    (λ c κs. search needs)
+    (λ c κs. search needs) (λ c. search needs) (λ c. search needs) (λ c κs. search needs)
     returns
     (λ c κs. search needs)
     returns-2)

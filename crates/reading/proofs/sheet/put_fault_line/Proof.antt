@@ -23,10 +23,7 @@ pub put-fault-line-spec : {M : Type 1} → statement M
 put-fault-line-spec =
     tie.close
     (tie.spec
-    (λ c. search needs)
-    (λ c κs. search needs)
-    (λ c κs. search needs)
-    (λ c. search needs)
+    (λ c. search needs) (λ c κs. search needs) (λ c κs. search needs) (λ c. search needs)
     put-text-requires-2
     put-phrase-requires
     put-byte-requires

@@ -52,9 +52,7 @@ put-records-spec =
     loop-holds
     (λ c. search needs)
     put-given-requires
-    (λ c κs. search needs)
-    (λ c. search needs)
-    (λ c. search needs)
+    (λ c κs. search needs) (λ c. search needs) (λ c. search needs)
     loop-again
     put-given-requires-2
     same-length

@@ -47,10 +47,7 @@ put-bytes-spec =
     Inv-loop
     μ-loop
     loop-holds
-    (λ c. search needs)
-    (λ c κs. omega arith)
-    (λ c. search needs)
-    (λ c. search needs)
+    (λ c. search needs) (λ c κs. omega arith) (λ c. search needs) (λ c. search needs)
     loop-again
     same-length
     returns)

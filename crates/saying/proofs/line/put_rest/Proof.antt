@@ -43,10 +43,7 @@ put-rest-spec =
     Inv-loop
     μ-loop
     loop-holds
-    (λ c. search needs)
-    (λ c. search needs)
-    (λ c κs. omega arith)
-    (λ c. search needs)
+    (λ c. search needs) (λ c. search needs) (λ c κs. omega arith) (λ c. search needs)
     (λ c. search needs)
     loop-again
     same-length

@@ -16,8 +16,7 @@ pub hex-next-spec : {M : Type 1} → statement M
 hex-next-spec =
     tie.close
     (tie.spec
-    (λ c κs. search needs)
-    (λ c κs. search needs)
+    (λ c κs. search needs) (λ c κs. search needs)
     returns
     (λ c κs. search needs)
     returns-2
