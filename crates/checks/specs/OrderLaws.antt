@@ -9,7 +9,7 @@ use Rattle.rules.specs.Answers.{firstOf, settleOf}
 use Rattle.rules.specs.LoopsLaws.{either}
 use Rattle.checks.specs.Order.{orElse, triedOf, answerOf, settledBy}
 
--- the first two of a list are one check: the second or else the first
+-- the first two of a list are one check: the first, or else the second
 two-tried : (c d : Check) (cs : List Check) (v : ℕ) → firstOf (c ∷ d ∷ cs) v ≡ firstOf (orElse c d ∷ cs) v
 unfolding firstOf orElse
 two-tried c d cs v = ⊎-elim (λ h. rw h) (λ h. rw h) (either (c .holds))

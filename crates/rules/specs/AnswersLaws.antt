@@ -10,7 +10,7 @@ use Rattle.rules.specs.Answers.{refusalNumber, isAccepted, firstOf, sett
 use Rattle.rules.specs.LoopsLaws.{either}
 
 -- no check of the list holds, check by check
-abbrev pub Clear : List Check → Type 0
+abbrev Clear : List Check → Type 0
 Clear [] = Unit {0}
 Clear (c ∷ cs) = (c .holds ≡ false) × Clear cs
 
