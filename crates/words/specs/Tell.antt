@@ -45,7 +45,7 @@ refusalPhrases =
     ∷ "tables out of range"  -- 20
     ∷ []
 
--- what the refusal of this number means
+-- what the refusal of this number means; of a number that is no refusal's nothing is said
 abbrev pub refusalPhrase : ℕ → List ℕ
 refusalPhrase number = textBytes (getD refusalPhrases number "")
 
