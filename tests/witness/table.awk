@@ -18,8 +18,11 @@ FNR == NR {
     sub(/:$/, "", name)
     if ($1 == "occurs") {
         row[++rows] = $2 " " name
-        for (i = 4; i <= NF; i++)
+        for (i = 4; i <= NF; i++) {
             wanted[$2 " " name " " $i] = "pair"
+            if ($i > highest)
+                highest = $i + 0
+        }
     } else if ($1 == "meets")
         wanted["reason " name " " $2 " " after_colon($0)] = "reason"
     else if ($1 == "edge") {
@@ -50,12 +53,12 @@ FNR == NR {
 
 END {
     printf "%-22s", "refusal number"
-    for (number = 0; number <= 12; number++)
+    for (number = 0; number <= highest; number++)
         printf "%8d", number
     print ""
     for (i = 1; i <= rows; i++) {
         printf "%-22s", row[i]
-        for (number = 0; number <= 12; number++) {
+        for (number = 0; number <= highest; number++) {
             key = row[i] " " number
             printf "%8s", key in found ? found[key] : key in wanted ? "MISSING" : key in never ? "never" : "."
         }

@@ -14,6 +14,7 @@ pub mod Stations
 pub mod Passages
 pub mod Rounds
 pub mod Calls
+pub mod FineLaws
 pub mod Machine
 pub mod StoredLaws
 pub mod Sane

@@ -8,7 +8,7 @@ use mathlib.Core.Bool.{Bool, true, false, cond, not, _&&_, _||_}
 use mathlib.Core.List.{List, [], _∷_}
 use lib.Dec.{leb, ltb, eqb}
 use lib.ListN.{getD}
-use borrow.Author.Tests.{leb-true, le-leb, leb-false, ltb-false}
+use borrow.Author.Tests.{leb-true, le-leb, ltb-false}
 use Rattle.rules.specs.Types.{Site, Kind, Phase, Call, Asked, Told, Body, Tables, Step, Reading, Refusal, Answer, Check, Trip, Places, Seen, Outcome}
 use Rattle.rules.specs.Limits.{clockMost, timeMost, widthMost, countMost}
 use Rattle.rules.specs.Loops.{everyUpTo}
@@ -18,11 +18,12 @@ use Rattle.rules.specs.Ranges.{countsInRange, kindInRange, phaseFits, ro
 use Rattle.rules.specs.Answers.{isAccepted, firstOf, settleOf}
 use Rattle.rules.specs.AnswersLaws.{Fine, holdsOf, accepted-fine}
 use Rattle.rules.specs.Parts.{clockTo, nextClock, countSent, restored, eachOf, openedRound, askedOf, askedVisit}
-use Rattle.rules.specs.Checks.{badSite, badHandle, badTimes, isFull}
+use Rattle.rules.specs.Checks.{badSite, badHandle, badTimes}
 use Rattle.rules.specs.Stations.{leftSite, tickOf, sweepOf, sweptSlot, crashOf, crashedSlot, recoverOf}
 use Rattle.rules.specs.Passages.{beginOf, abortOf, retireOf}
 use Rattle.rules.specs.Rounds.{openedVisit, openOf, refreshOf, terminateOf, prepareOf, sentOut, askOf, closeOf, tellOf}
 use Rattle.rules.specs.Calls.{callSite, callOf, invokeOf, mailClock, mailSlot, emptyOf, calledVisit, calledObject, callDone, deliverCallOf, deliverPhaseOneOf, deliverPhaseTwoOf, deliverAnswerOf, deliverBodyOf, dropOf}
+use Rattle.rules.specs.FineLaws.{invoke-count, call-count, open-count}
 use Rattle.rules.specs.Machine.{lookOf, placesOf, seenOf, remains, decideOf, stored, headOf, sweepTurn, crashTurn, turnOf, turnsUpTo, turnCount, stepInRangeOf, stepOf}
 use Rattle.rules.specs.StoredLaws.{Placed}
 use Rattle.rules.specs.Record.{stepOfRecord, readingOf, recordInRangeOf, stepRecordOf}
@@ -77,7 +78,7 @@ module _ (seen : Seen) (b : SeenFits seen) where
   unfolding openOf
   fits-after-open h k bad wrong p kind =
       settled-fits _ _ _ λ f.
-      let n : seen .passage .round .number < countMost = leb-false _ _ (f .room) in
+      let n : seen .passage .round .number < countMost = open-count h bad wrong seen f in
       let g : kindInRange k ≡ true = kind (f .fields) in
       let v : VisitFits (openedVisit k (nextClock (seen .site)) seen) =
       asked-visit-fits (askedOf k) _ _ (seen .visit) (asked-in-range k g) (omega arith) (b .visit) in
@@ -127,8 +128,7 @@ module _ (seen : Seen) (b : SeenFits seen) where
   fits-after-invoke h site write object value place =
       settled-fits _ _ _ λ f.
       let n : ltb clockMost (nextClock (seen .site)) ≡ false = f .clock in
-      let k : getD (seen .visit .sent) (callSite object) 0 < countMost =
-      leb-false _ _ (or-right (isFull seen) _ (f .room)) in
+      let k : getD (seen .visit .sent) (callSite object) 0 < countMost = invoke-count h site write object value seen f in
       neither {b = eqb write 0 && not (eqb value 0)} (f .fields) λ e _.
       neither {b = ltb widthMost value} e λ e v.
       neither {b = ltb 31 object} e λ e o.
@@ -150,7 +150,7 @@ module _ (seen : Seen) (b : SeenFits seen) where
       let visit : VisitFits (calledVisit c (seen .visit)) =
       search (arith, new-visit-fits, cond-keeps VisitFits) in
       settled-fits _ _ _ λ f.
-      let k : calledVisit c (seen .visit) .received < countMost = leb-false _ _ (f .room) in
+      let k : calledVisit c (seen .visit) .received < countMost = call-count m c seen f in
       let o : ObjectsFit (callDone m c seen .left .objects) =
       λ i.
       set-keeps-at ObjectFits (seen .objects) (c .object % 4) i _ pastObject (b .objects i)

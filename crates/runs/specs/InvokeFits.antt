@@ -7,12 +7,13 @@ use mathlib.Core.Bool.{true, cond}
 use borrow.Author.Tests.{leb-false, ltb-false}
 use Rattle.rules.specs.LoopsLaws.{or-left, or-right, not-false}
 use Rattle.rules.specs.Tables.{siteAt, passageAt, visitAt, messageAt, slotOf}
-use Rattle.rules.specs.Parts.{isFree, isEmpty, countSent, plainMessage}
+use Rattle.rules.specs.Parts.{isFree, countSent, plainMessage}
 use Rattle.rules.specs.Ranges.{inRange}
 use Rattle.rules.specs.Checks.{badHandle, badSite}
 use Rattle.rules.specs.Calls.{callSite, callOf, invokeChecks, invokeDone}
 use Rattle.rules.specs.Machine.{lookOf, placesOf, seenOf}
 use Rattle.rules.specs.AnswersLaws.{Fine}
+use Rattle.rules.specs.FineLaws.{invoke-empty}
 use Rattle.rules.specs.RangesLaws.{placed-places}
 use Rattle.runs.specs.Types.{Call, Body, Message, Tables, Step, Places}
 use Rattle.runs.specs.Put.{put, put-same}
@@ -66,9 +67,6 @@ module _ (t : Tables) (at : Places) (h site write object value place : ℕ) (her
   invoke-early : siteAt t (at .site) .clock + 1 < visitAt t (at .site) (at .slot) .quiesce
   invoke-early = leb-false _ _ (or-left _ (visitAt t (at .site) (at .slot) .dead) (fine .early))
 
-  invoke-empty : isEmpty (messageAt t (at .message) .body) ≡ true
-  invoke-empty = not-false _ (or-left _ _ (fine .room))
-
   abbrev newMessage : ℕ → Message
   newMessage source =
       plainMessage
@@ -82,7 +80,7 @@ module _ (t : Tables) (at : Places) (h site write object value place : ℕ) (her
   invoke-fits-at =
       record {
         clock = omega arith;
-        mail = inr (inl invoke-empty, inr own);
+        mail = inr (inl (invoke-empty h site write object value (seenOf t at) fine), inr own);
         own =
             λ l g.
             subst
@@ -112,7 +110,7 @@ module _ (t : Tables) (at : Places) (h site write object value place : ℕ) (her
             (omega arith)
             invoke-there
             invoke-early
-            (ap (λ (m : Message). m .body) (empty-mail (at .slot) (messageAt t (at .message)) invoke-empty))
+            (ap (λ (m : Message). m .body) (empty-mail (at .slot) (messageAt t (at .message)) (invoke-empty h site write object value (seenOf t at) fine)))
             kin
             (omega arith)
             refl

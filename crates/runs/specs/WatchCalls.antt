@@ -9,6 +9,7 @@ use Rattle.rules.specs.LoopsLaws.{or-left, not-false}
 use Rattle.rules.specs.Tables.{siteAt, passageAt, visitAt, messageAt, noMessage, slotOf}
 use Rattle.rules.specs.Answers.{isAccepted, settleOf}
 use Rattle.rules.specs.AnswersLaws.{Fine, accepted-fine}
+use Rattle.rules.specs.FineLaws.{invoke-empty}
 use Rattle.rules.specs.Parts.{isEmpty, nextClock, askedVisit, answerMessage, plainMessage}
 use Rattle.rules.specs.Calls.{callSite, callOf, invokeDone, invokeChecks, mailClock, atHome, replyOf, calledVisit, callChecks, callDone, phaseOneDone, phaseTwoDone, answerDone, emptyOf, deliverCallOf, deliverPhaseOneOf, deliverPhaseTwoOf, deliverAnswerOf, deliverBodyOf, lost}
 use Rattle.rules.specs.Machine.{seenOf}
@@ -31,7 +32,7 @@ pub invoked-keeps :
 invoked-keeps latest t at h site write object value place own fine =
     record {
       clock = omega arith;
-      mail = inr (inl (not-false _ (or-left _ _ (fine .room))), inr own);
+      mail = inr (inl (invoke-empty h site write object value (seenOf t at) fine), inr own);
       own =
           λ e.
           record {
