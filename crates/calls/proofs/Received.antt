@@ -1,10 +1,10 @@
 -- A call's visit has received no more calls than the visit that was there: a new one has received none. Assumes nothing.
 use Prim.Native.Nat.{ℕ, _≤_, zero-le}
+use Rattle.rules.specs.LoopsLaws.{cond-keeps}
 use Rattle.rules.specs.declared.tables.Call.{Call}
 use Rattle.rules.specs.declared.tables.Visit.{Visit}
 use Rattle.rules.specs.Calls.{calledVisit}
 use Rattle.rules.specs.Parts.{newVisit}
-use Rattle.rules.specs.RangesLaws.{cond-keeps}
 
 pub called-received : (c : Call) (v : Visit) (n : ℕ) → v .received ≤ n → calledVisit c v .received ≤ n
 called-received c v n h =

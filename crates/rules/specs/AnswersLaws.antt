@@ -7,21 +7,23 @@ use mathlib.Core.List.{List, [], _∷_}
 use lib.Dec.{eqb}
 use Rattle.rules.specs.Types.{Refusal, Answer, Check, Seen, Decision}
 use Rattle.rules.specs.Answers.{refusalNumber, isAccepted, firstOf, settleOf}
-use Rattle.rules.specs.LoopsLaws.{either}
+use Rattle.rules.specs.LoopsLaws.{either, cond-keeps}
 
 -- no check of the list holds, check by check
-abbrev Clear : List Check → Type 0
+abbrev pub Clear : List Check → Type 0
 Clear [] = Unit {0}
 Clear (c ∷ cs) = (c .holds ≡ false) × Clear cs
 
--- the condition under which a list of checks gives this refusal; a list has at most one check for each
+-- what the first check asks that gives this refusal; false where none does
 abbrev pub holdsOf : Refusal → List Check → Bool
 holdsOf r [] = false
 holdsOf r (c ∷ cs) = cond (eqb (refusalNumber (c .gives)) (refusalNumber r)) (c .holds) (holdsOf r cs)
 
--- what an accepted step has passed, by name and not by place: a check put between two others leaves every name as it is.
+-- What an accepted step has passed: every check of its list, and by name the first that gives each refusal.
+-- A check of another refusal, put between two others, leaves every name as it is.
 -- A field says that its check did not hold, and not what the check asks: that stays with the definition.
 pub record Fine (cs : List Check) : Type 0 where
+  pub all : Clear cs
   -- 2
   pub fields : holdsOf Refusal.BadField cs ≡ false
   -- 3
@@ -45,32 +47,28 @@ pub record Fine (cs : List Check) : Type 0 where
   -- 12
   pub closed : holdsOf Refusal.NotClosed cs ≡ false
 
-either-false : (t x y : Bool) → x ≡ false → y ≡ false → cond t x y ≡ false
-either-false true x y e f = e
-either-false false x y e f = f
-
-passed : (r : Refusal) (cs : List Check) → Clear cs → holdsOf r cs ≡ false
-passed r [] f = refl
-passed r (c ∷ cs) f =
-    either-false (eqb (refusalNumber (c .gives)) (refusalNumber r)) (c .holds) _ (f .0) (passed r cs (f .1))
+none-gives : (r : Refusal) (cs : List Check) → Clear cs → holdsOf r cs ≡ false
+none-gives r [] f = refl
+none-gives r (c ∷ cs) f =
+    cond-keeps (λ (x : Bool). x ≡ false) (eqb (refusalNumber (c .gives)) (refusalNumber r)) (c .holds) _ (f .0) (none-gives r cs (f .1))
 
 clear-fine : (cs : List Check) → Clear cs → Fine cs
 clear-fine cs f =
     record {
-      fields = passed Refusal.BadField cs f;
-      found = passed Refusal.NotThere cs f;
-      up = passed Refusal.SiteDown cs f;
-      state = passed Refusal.WrongState cs f;
-      there = passed Refusal.NoVisit cs f;
-      clock = passed Refusal.ClockFull cs f;
-      early = passed Refusal.Quiesced cs f;
-      round = passed Refusal.WrongRound cs f;
-      unheld = passed Refusal.Held cs f;
-      room = passed Refusal.Full cs f;
-      closed = passed Refusal.NotClosed cs f;
+      all = f;
+      fields = none-gives Refusal.BadField cs f;
+      found = none-gives Refusal.NotThere cs f;
+      up = none-gives Refusal.SiteDown cs f;
+      state = none-gives Refusal.WrongState cs f;
+      there = none-gives Refusal.NoVisit cs f;
+      clock = none-gives Refusal.ClockFull cs f;
+      early = none-gives Refusal.Quiesced cs f;
+      round = none-gives Refusal.WrongRound cs f;
+      unheld = none-gives Refusal.Held cs f;
+      room = none-gives Refusal.Full cs f;
+      closed = none-gives Refusal.NotClosed cs f;
     }
 
--- an accepted answer says that no check holds
 accepted-clear : (cs : List Check) (v : ℕ) → isAccepted (firstOf cs v) ≡ true → Clear cs
 unfolding firstOf
 accepted-clear [] v e = tt
@@ -80,6 +78,7 @@ accepted-clear (c ∷ cs) v e =
     (λ h. (h, accepted-clear cs v (rw h at e)))
     (either (c .holds))
 
+-- an accepted answer says that no check holds
 pub accepted-fine : (cs : List Check) (v : ℕ) → isAccepted (firstOf cs v) ≡ true → Fine cs
 accepted-fine cs v e = clear-fine cs (accepted-clear cs v e)
 

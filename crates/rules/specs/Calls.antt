@@ -6,7 +6,7 @@ use mathlib.Core.List.{List, [], _∷_}
 use lib.Dec.{leb, ltb, eqb}
 use lib.ListN.{getD, set}
 use Rattle.rules.specs.Types.{Object, Figures, Status, Passage, Visit, Call, Asked, Told, Body, Message, Refusal, Answer, Check, Seen, Decision}
-use Rattle.rules.specs.Limits.{widthMost, countMost}
+use Rattle.rules.specs.Limits.{widthMost, countMost, objectMost}
 use Rattle.rules.specs.Tables.{objectSite, slotOf, pastObject, noMessage}
 use Rattle.rules.specs.Answers.{refuse, firstOf, settleOf}
 use Rattle.rules.specs.Parts.{clockTo, nextClock, deliveryClock, isFree, isPhaseOne, withStatus, withRound, newVisit, countSent, countReceived, isHeldByOther, taken, operated, withAnswer, askedVisit, askedStatus, toldVisit, toldObjects, toldStatus, asksLife, tellsLife, plainMessage, answerMessage}
@@ -21,7 +21,7 @@ callSite object = objectSite object % 8
 -- 2: "a field .. out of range, read with u not 0"
 abbrev pub badCall : ℕ → ℕ → ℕ → ℕ → ℕ → Bool
 badCall h site write object value =
-    badHandle h || badSite site || ltb 1 write || ltb 31 object || ltb widthMost value
+    badHandle h || badSite site || ltb 1 write || ltb objectMost object || ltb widthMost value
     || (eqb write 0 && not (eqb value 0))
 
 -- 11: "call count (sent for invoke ..) at 1,000"

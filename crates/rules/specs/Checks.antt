@@ -3,14 +3,14 @@ use Prim.Native.Nat.{ℕ}
 use mathlib.Core.Bool.{Bool, not, _||_}
 use lib.Dec.{ltb, eqb}
 use Rattle.rules.specs.Types.{Refusal, Check, Seen}
-use Rattle.rules.specs.Limits.{clockMost, timeMost, handleMost}
+use Rattle.rules.specs.Limits.{clockMost, timeMost, handleMost, siteMost, messageMost}
 use Rattle.rules.specs.Tables.{generationOf}
 use Rattle.rules.specs.Answers.{refuse}
 use Rattle.rules.specs.Parts.{isFree, isEmpty}
 
 -- 2: "a field .. out of range", the sites being 0..7
 abbrev pub badSite : ℕ → Bool
-badSite s = ltb 7 s
+badSite s = ltb siteMost s
 
 -- 2: "handle (0..4,095) out of range"
 abbrev pub badHandle : ℕ → Bool
@@ -22,7 +22,7 @@ badTimes q r = ltb timeMost q || ltb timeMost r || ltb r q
 
 -- 2: the message slots are 0..31
 abbrev pub badMessage : ℕ → Bool
-badMessage m = ltb 31 m
+badMessage m = ltb messageMost m
 
 -- 3: "h: slot free or other generation"
 abbrev pub noPassage : ℕ → Seen → Check

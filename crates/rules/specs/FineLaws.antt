@@ -1,4 +1,4 @@
--- What an accepted step has passed where room is asked for: an empty slot for a new message, and a count that may grow by one.
+-- What an accepted step has passed where room is asked for: an empty slot for a new message, and a count that may grow by one. Assumes nothing.
 use Prim.Native.Nat.{ℕ, _<_}
 use mathlib.Core.Path.{_≡_}
 use mathlib.Core.Bool.{Bool, true}

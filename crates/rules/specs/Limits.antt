@@ -21,6 +21,22 @@ countMost = 1000
 abbrev pub handleMost : ℕ
 handleMost = 4095
 
+-- "8 sites, 0..7"
+abbrev pub siteMost : ℕ
+siteMost = 7
+
+-- "16 passage slots"
+abbrev pub slotMost : ℕ
+slotMost = 15
+
+-- "32 objects"
+abbrev pub objectMost : ℕ
+objectMost = 31
+
+-- "32 message slots"
+abbrev pub messageMost : ℕ
+messageMost = 31
+
 -- "n, 1..1,000,000"
 abbrev pub tickMost : ℕ
 tickMost = 1000000

@@ -4,7 +4,7 @@ use native.Mathlib.Omega.{arith}
 use native.Mathlib.Nat.{not-suc-le-zero, suc-mul}
 use mathlib.Core.Path.{_≡_, refl, sym, ap₂, subst}
 use mathlib.Core.Logic.{⊎-elim, _⊎_, inl, inr}
-use mathlib.Core.Bool.{Bool, true, false, not, _&&_, _||_, true≢false, false≢true}
+use mathlib.Core.Bool.{Bool, true, false, cond, not, _&&_, _||_, true≢false, false≢true}
 use lib.Dec.{eqb, ltb}
 use borrow.Author.Tests.{ltb-true, ltb-false, eqb-false}
 use Rattle.rules.specs.Loops.{everyUpTo, someUpTo, sumUpTo, mostUpTo, firstNext, firstUpTo}
@@ -42,6 +42,11 @@ not-true false e = refl
 pub either : (a : Bool) → (a ≡ true) ⊎ (a ≡ false)
 either true = inl refl
 either false = inr refl
+
+-- what holds of both sides of a choice holds of the choice
+pub cond-keeps : {A : Type 0} (P : A → Type 0) (b : Bool) (x y : A) → P x → P y → P (cond b x y)
+cond-keeps P true x y p q = p
+cond-keeps P false x y p q = q
 
 -- an index below n + 1 is below n, or is n
 pub below-or-last : (k n : ℕ) → k < suc n → (k < n) ⊎ (k ≡ n)

@@ -3,6 +3,7 @@ use Prim.Native.Nat.{ℕ, zero, suc, _+_, _%_, min}
 use mathlib.Core.Bool.{Bool, cond, _&&_, _||_, not}
 use lib.Dec.{eqb}
 use Rattle.rules.specs.Types.{Passage, Body, Message, Tables, Step, Refusal, Answer, MailAt, SlotAt, SiteAt, Trip, Look, Places, Seen, Decision, Outcome}
+use Rattle.rules.specs.Limits.{messageMost}
 use Rattle.rules.specs.Loops.{oneIf, someUpTo, firstUpTo}
 use Rattle.rules.specs.Tables.{siteAt, passageAt, visitAt, messageAt, bankAt, putSite, putPassage, putVisit, putMessage, putBank, objectSite, slotOf}
 use Rattle.rules.specs.Ranges.{inRange}
@@ -56,7 +57,7 @@ lowestEmpty t = firstUpTo (λ m. isEmpty (messageAt t m .body)) 32
 abbrev pub mailPlace : MailAt → ℕ → ℕ
 mailPlace MailAt.Nowhere e = 0
 mailPlace (MailAt.Given m) e = m % 32
-mailPlace MailAt.Empty e = min e 31
+mailPlace MailAt.Empty e = min e messageMost
 
 abbrev pub slotPlace : SlotAt → Message → ℕ
 slotPlace (SlotAt.Given h) m = slotOf h

@@ -5,6 +5,7 @@ use mathlib.Core.Bool.{Bool, false, not, _||_}
 use mathlib.Core.List.{List, [], _∷_}
 use lib.Dec.{leb, ltb}
 use Rattle.rules.specs.Types.{Status, Passage, Refusal, Check, Seen, Decision}
+use Rattle.rules.specs.Limits.{slotMost}
 use Rattle.rules.specs.Tables.{handleOf, freeSlot, noRound}
 use Rattle.rules.specs.Answers.{refuse, firstOf, settleOf}
 use Rattle.rules.specs.Parts.{clockTo, nextClock, isFree, isRunning, isOver, abortedPassage, whereThere, quieted, newVisit}
@@ -14,7 +15,7 @@ use Rattle.rules.specs.Checks.{badSite, badHandle, badTimes, noPassage, 
 
 abbrev pub beginChecks : ℕ → ℕ → ℕ → ℕ → Seen → List Check
 beginChecks home slot q r seen =
-    refuse Refusal.BadField (badSite home || ltb 15 slot || badTimes q r) ∷ siteDown seen
+    refuse Refusal.BadField (badSite home || ltb slotMost slot || badTimes q r) ∷ siteDown seen
     ∷ refuse Refusal.WrongState (not (isFree (seen .passage .status)))
     ∷ clockFull (nextClock (seen .site))
     ∷ refuse Refusal.Quiesced (leb q (nextClock (seen .site)))

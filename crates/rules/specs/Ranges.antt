@@ -6,7 +6,7 @@ use mathlib.Core.List.{List}
 use lib.Dec.{leb}
 use lib.ListN.{getD}
 use Rattle.rules.specs.Types.{Site, Holder, Object, Figures, Kind, Phase, Round, Passage, Visit, Call, Asked, Told, Body, Message, Tables}
-use Rattle.rules.specs.Limits.{clockMost, timeMost, widthMost, countMost, handleMost}
+use Rattle.rules.specs.Limits.{clockMost, timeMost, widthMost, countMost, handleMost, siteMost, slotMost, objectMost}
 use Rattle.rules.specs.Loops.{everyUpTo}
 use Rattle.rules.specs.Tables.{siteAt, objectAt, passageAt, messageAt, pastFigures, pastVisit}
 
@@ -17,7 +17,7 @@ siteInRange s = leb (s .clock) clockMost
 -- "holder (a slot) or none"
 abbrev pub holderInRange : Holder → Bool
 holderInRange Holder.Nobody = true
-holderInRange (Holder.Slot p) = leb p 15
+holderInRange (Holder.Slot p) = leb p slotMost
 
 -- "Value 0..1,000,000 (mm), holder (a slot) or none, and the value before the holder took it"
 abbrev pub objectInRange : Object → Bool
@@ -56,7 +56,7 @@ roundInRange r =
 
 -- home is a site, 0..7; every byte is a generation
 abbrev pub passageInRange : Passage → Bool
-passageInRange p = leb (p .home) 7 && roundInRange (p .round)
+passageInRange p = leb (p .home) siteMost && roundInRange (p .round)
 
 -- "quiesce Q, release R, round, .. calls sent to each site .., calls received"
 abbrev pub visitInRange : Visit → Bool
@@ -68,7 +68,7 @@ visitInRange v =
 abbrev pub callInRange : Call → Bool
 callInRange c =
     leb (c .quiesce) timeMost && leb (c .release) timeMost && leb (c .round) countMost
-    && leb (c .object) 31
+    && leb (c .object) objectMost
     && leb (c .value) widthMost
 
 abbrev pub askedInRange : Asked → Bool
@@ -90,7 +90,7 @@ bodyInRange (Body.Answer n received q) = leb n countMost && leb received countMo
 
 abbrev pub messageInRange : Message → Bool
 messageInRange m =
-    leb (m .source) 7 && leb (m .destination) 7 && leb (m .handle) handleMost && leb (m .stamp) clockMost
+    leb (m .source) siteMost && leb (m .destination) siteMost && leb (m .handle) handleMost && leb (m .stamp) clockMost
     && countsInRange (m .sent)
     && bodyInRange (m .body)
 

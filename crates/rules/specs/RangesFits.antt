@@ -11,14 +11,14 @@ use borrow.Author.Tests.{leb-true, le-leb, ltb-false}
 use Rattle.rules.specs.Types.{Object, Figures, Kind, Phase, Round, Passage, Visit, Call, Asked, Told, Message, Seen}
 use Rattle.rules.specs.Limits.{clockMost, timeMost, widthMost, countMost, handleMost}
 use Rattle.rules.specs.Loops.{mostUpTo}
-use Rattle.rules.specs.LoopsLaws.{and-left, and-right, and-both, every-at, every-all}
+use Rattle.rules.specs.LoopsLaws.{and-left, and-right, and-both, every-at, every-all, cond-keeps}
 use Rattle.rules.specs.Tables.{pastObject, pastFigures, noCounts, noFigures, noRound, noVisit, noMessage}
 use Rattle.rules.specs.Ranges.{holderInRange, objectInRange, countsInRange, figuresInRange, kindInRange, phaseFits, roundInRange, visitInRange, callInRange, askedInRange, toldInRange, bodyInRange, messageInRange}
 use Rattle.rules.specs.Parts.{isPhaseOne, abortedPassage, quieted, newVisit, isHeldBy, taken, operated, unheld, freed, eachOf, figuresAt, hasAnswered, withAnswer, largestQuiesce, askedOf, toldOf, askedVisit, toldVisit, toldObjects, answerMessage}
 use Rattle.rules.specs.Checks.{badTimes}
 use Rattle.rules.specs.Rounds.{roundTold}
 use Rattle.rules.specs.Sane.{Sane}
-use Rattle.rules.specs.RangesLaws.{set-keeps-at, four-at, both, neither, cond-keeps, SeenInRange}
+use Rattle.rules.specs.RangesLaws.{set-keeps-at, four-at, both, neither, SeenInRange}
 
 -- ---- the ranges of a record
 

@@ -12,7 +12,7 @@ use borrow.Author.Tests.{leb-true, le-leb, ltb-false}
 use Rattle.rules.specs.Types.{Site, Kind, Phase, Call, Asked, Told, Body, Tables, Step, Reading, Refusal, Answer, Check, Trip, Places, Seen, Outcome}
 use Rattle.rules.specs.Limits.{clockMost, timeMost, widthMost, countMost}
 use Rattle.rules.specs.Loops.{everyUpTo}
-use Rattle.rules.specs.LoopsLaws.{or-right, not-false, either}
+use Rattle.rules.specs.LoopsLaws.{or-right, not-false, either, cond-keeps}
 use Rattle.rules.specs.Tables.{pastObject, start}
 use Rattle.rules.specs.Ranges.{countsInRange, kindInRange, phaseFits, roundInRange, askedInRange, toldInRange, bodyInRange, inRange}
 use Rattle.rules.specs.Answers.{isAccepted, firstOf, settleOf}
@@ -28,7 +28,7 @@ use Rattle.rules.specs.Machine.{lookOf, placesOf, seenOf, remains, decid
 use Rattle.rules.specs.StoredLaws.{Placed}
 use Rattle.rules.specs.Record.{stepOfRecord, readingOf, recordInRangeOf, stepRecordOf}
 use Rattle.rules.specs.Runs.{runOf, runRecordsOf}
-use Rattle.rules.specs.RangesLaws.{set-keeps-at, both, neither, cond-keeps, SeenInRange, seen-in-range, stored-in-range, placed-places, placed-slots}
+use Rattle.rules.specs.RangesLaws.{set-keeps-at, both, neither, SeenInRange, seen-in-range, stored-in-range, placed-places, placed-slots}
 use Rattle.rules.specs.RangesFits.{Counts, RoundFits, PassageFits, VisitFits, CallFits, call-says, call-makes, MessageFits, ObjectFits, ObjectsFit, SeenFits, seen-says, seen-makes, times-fit, no-counts-fit, eight-figures-fit, no-round-fits, new-visit-fits, no-visit-fits, no-message-fits, answer-message-fits, let-go-fits, taken-fits, operated-fits, each-fits, told-objects-fit, quieted-fits, asked-visit-fits, told-visit-fits, asked-in-range, round-told-in-range, phase-two-fits, with-answer-fits, aborted-fits}
 
 -- ---- the steps

@@ -48,10 +48,6 @@ both {a} {b} e f = f (and-left a b e) (and-right a b e)
 pub neither : {a b : Bool} {R : Type 0} → (a || b) ≡ false → (a ≡ false → b ≡ false → R) → R
 neither {a} {b} e f = f (or-left a b e) (or-right a b e)
 
-pub cond-keeps : {A : Type 0} (P : A → Type 0) (b : Bool) (x y : A) → P x → P y → P (cond b x y)
-cond-keeps P true x y p q = p
-cond-keeps P false x y p q = q
-
 -- ---- the tables, place by place
 
 pub record TablesInRange (t : Tables) : Type 0 where

@@ -1,5 +1,5 @@
 -- Number 20 exactly: a step or a record is refused by it if and only if the tables handed in are out of range.
--- The idea: no list of checks has a check that gives 20, and going through the slots of a site changes no number.
+-- The idea: no list of checks has a check that gives 20, and going through the slots of a site changes no number. Assumes nothing.
 use Prim.Native.Nat.{ℕ, zero, suc}
 use mathlib.Core.Path.{_≡_, refl, _∙_}
 use mathlib.Core.Logic.{⊎-elim}

@@ -1,5 +1,5 @@
-// The ranges of document 01, "Tables and numbers": the largest number that each allows. The definitions have theirs in specs/Limits.antt.
-// Each has the width of the field that it is compared with.
+// The ranges of document 01, "Tables and numbers": the largest number that each allows, as wide as the field that it bounds.
+// The definitions name the same limits in specs/Limits.antt.
 
 // A clock, or a stamp.
 pub const CLOCK_MOST: u64 = 2000000000;

@@ -191,6 +191,7 @@ receivedBy x = cond (x .seen) (x .last .received) 0
 abbrev pub sentBy : ℕ → Past → ℕ
 sentBy d x = cond (x .seen) (getD (x .last .sent) d 0) 0
 
+-- the calls to a site that were received or are in flight are at most those that were sent
 abbrev pub Balanced : View → Ledger → ℕ → Type 0
 Balanced w l d = receivedBy (l d) + callsTo w d ≤ sumUpTo (λ v. sentBy d (l v)) 8
 

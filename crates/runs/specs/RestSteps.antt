@@ -10,10 +10,10 @@ use lib.ListN.{getD}
 use Rattle.rules.specs.declared.tables.Object.{Object}
 use Rattle.rules.specs.declared.answers.Check.{Check}
 use Rattle.rules.specs.declared.answers.Trip.{Trip}
-use Rattle.rules.specs.LoopsLaws.{either}
+use Rattle.rules.specs.LoopsLaws.{either, cond-keeps}
 use Rattle.rules.specs.Tables.{pastObject, objectAt, bankAt, objectSite, slotOf}
 use Rattle.rules.specs.Ranges.{inRange}
-use Rattle.rules.specs.RangesLaws.{cond-keeps, placed-places, placed-slots}
+use Rattle.rules.specs.RangesLaws.{placed-places, placed-slots}
 use Rattle.rules.specs.RangesKept.{turn-count-most}
 use Rattle.rules.specs.Answers.{isAccepted, firstOf, settleOf}
 use Rattle.rules.specs.Parts.{nextClock, freed, restored, largestQuiesce, toldObjects, toldOf}

@@ -10,7 +10,7 @@ use borrow.Author.Tests.{eq-eqb}
 use Rattle.rules.specs.declared.tables.Holder.{Holder}
 use Rattle.rules.specs.declared.answers.Trip.{Trip}
 use Rattle.rules.specs.declared.answers.Check.{Check}
-use Rattle.rules.specs.LoopsLaws.{either, or-left, or-right, not-false}
+use Rattle.rules.specs.LoopsLaws.{either, or-left, or-right, not-false, cond-keeps}
 use Rattle.rules.specs.Tables.{start, objectAt, passageAt, visitAt, messageAt, objectSite, slotOf}
 use Rattle.rules.specs.Ranges.{inRange}
 use Rattle.rules.specs.Answers.{isAccepted, firstOf, settleOf}
@@ -22,7 +22,7 @@ use Rattle.rules.specs.Rounds.{openOf, refreshOf, terminateOf, prepareOf, askOf
 use Rattle.rules.specs.Calls.{invokeOf, emptyOf, deliverCallOf, deliverPhaseOneOf, deliverPhaseTwoOf, deliverAnswerOf, deliverBodyOf, dropOf}
 use Rattle.rules.specs.Machine.{lookOf, placesOf, seenOf, decideOf, stored, headOf, slotPlaces, sweepTurn, crashTurn, turnOf, turnsUpTo, turnCount, stepInRangeOf, stepOf}
 use Rattle.rules.specs.StoredLaws.{Sized, Placed, sized-after-stored, passage-after-stored, passage-after-stored-other}
-use Rattle.rules.specs.RangesLaws.{cond-keeps, placed-places, placed-slots}
+use Rattle.rules.specs.RangesLaws.{placed-places, placed-slots}
 use Rattle.rules.specs.RangesKept.{turn-count-most}
 use Rattle.rules.specs.RefusedLaws.{refused-leaves}
 use Rattle.rules.specs.Runs.{runOf}

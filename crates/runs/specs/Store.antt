@@ -12,8 +12,7 @@ use Rattle.rules.specs.AnswersLaws.{settle-accepted}
 use Rattle.rules.specs.Parts.{isFree, isEmpty, answerMessage}
 use Rattle.rules.specs.Calls.{atHome, replyOf}
 use Rattle.rules.specs.Machine.{seenOf, stored}
-use Rattle.rules.specs.LoopsLaws.{either}
-use Rattle.rules.specs.RangesLaws.{cond-keeps}
+use Rattle.rules.specs.LoopsLaws.{either, cond-keeps}
 use Rattle.rules.specs.StoredLaws.{Sized, Placed, visit-place-same, site-after-stored, passage-after-stored, visit-after-stored, message-after-stored, site-after-stored-other, passage-after-stored-other, visit-after-stored-other, message-after-stored-other}
 use Rattle.runs.specs.Types.{Site, Status, Passage, Visit, Body, Message, Tables, Places, Seen, Decision}
 use Rattle.runs.specs.Put.{put, put-same, put-other, put-all, same-or-other, everywhere, put-back}

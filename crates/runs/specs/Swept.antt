@@ -7,12 +7,12 @@ use mathlib.Core.Logic.{_≢_, ⊎-elim, _⊎_, inl, inr}
 use mathlib.Core.Bool.{Bool, true, false, cond, false≢true}
 use lib.Dec.{leb}
 use borrow.Author.Tests.{leb-false}
-use Rattle.rules.specs.LoopsLaws.{either}
+use Rattle.rules.specs.LoopsLaws.{either, cond-keeps}
 use Rattle.rules.specs.Tables.{siteAt, visitAt}
 use Rattle.rules.specs.Answers.{isAccepted}
 use Rattle.rules.specs.Ranges.{inRange}
 use Rattle.rules.specs.StoredLaws.{Sized, sized-after-stored, visit-place-same, site-after-stored, visit-after-stored, visit-after-stored-other}
-use Rattle.rules.specs.RangesLaws.{cond-keeps, placed-slots}
+use Rattle.rules.specs.RangesLaws.{placed-slots}
 use Rattle.rules.specs.RangesKept.{turn-count-most}
 use Rattle.rules.specs.Stations.{isSwept, sweptSlot}
 use Rattle.rules.specs.Machine.{seenOf, stored, headOf, slotPlaces, sweepTurn, turnsUpTo, turnCount, stepInRangeOf, stepOf}

@@ -5,7 +5,7 @@ use mathlib.Core.Path.{_≡_, refl, sym, ap, _∙_, subst}
 use mathlib.Core.Logic.{inl, inr}
 use mathlib.Core.Bool.{true, false, true≢false}
 use borrow.Author.Tests.{leb-false}
-use Rattle.rules.specs.LoopsLaws.{or-left, not-false}
+use Rattle.rules.specs.LoopsLaws.{or-left, not-false, cond-keeps}
 use Rattle.rules.specs.Tables.{siteAt, passageAt, visitAt, messageAt, noMessage, slotOf}
 use Rattle.rules.specs.Answers.{isAccepted, settleOf}
 use Rattle.rules.specs.AnswersLaws.{Fine, accepted-fine}
@@ -13,7 +13,6 @@ use Rattle.rules.specs.FineLaws.{invoke-empty}
 use Rattle.rules.specs.Parts.{isEmpty, nextClock, askedVisit, answerMessage, plainMessage}
 use Rattle.rules.specs.Calls.{callSite, callOf, invokeDone, invokeChecks, mailClock, atHome, replyOf, calledVisit, callChecks, callDone, phaseOneDone, phaseTwoDone, answerDone, emptyOf, deliverCallOf, deliverPhaseOneOf, deliverPhaseTwoOf, deliverAnswerOf, deliverBodyOf, lost}
 use Rattle.rules.specs.Machine.{seenOf}
-use Rattle.rules.specs.RangesLaws.{cond-keeps}
 use Rattle.runs.specs.Types.{Visit, Call, Asked, Told, Body, Message, Tables, Places, Seen, Decision}
 use Rattle.runs.specs.View.{View, viewOf}
 use Rattle.runs.specs.Store.{own-body, reply-own}

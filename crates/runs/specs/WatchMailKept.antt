@@ -3,11 +3,11 @@ use Prim.Native.Nat.{ℕ}
 use mathlib.Core.Path.{_≡_, refl, sym, ap, _∙_, subst}
 use mathlib.Core.Logic.{_≢_, ⊎-elim}
 use mathlib.Core.Bool.{true, true≢false}
+use Rattle.rules.specs.LoopsLaws.{cond-keeps}
 use Rattle.rules.specs.Tables.{noMessage}
 use Rattle.rules.specs.Parts.{isActive, largestQuiesce, askedOf, toldOf}
 use Rattle.rules.specs.Rounds.{askBody, tellBody}
 use Rattle.rules.specs.Machine.{isMessageOf}
-use Rattle.rules.specs.RangesLaws.{cond-keeps}
 use Rattle.runs.specs.Types.{Kind, Phase, Status, Asked, Body, Message}
 use Rattle.runs.specs.View.{View, mailOf}
 use Rattle.runs.specs.Clauses.{isRefresh}

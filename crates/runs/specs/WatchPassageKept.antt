@@ -3,9 +3,9 @@ use Prim.Native.Nat.{ℕ}
 use mathlib.Core.Path.{_≡_, refl, ap}
 use mathlib.Core.Logic.{_≢_, ⊎-elim, inl, inr}
 use mathlib.Core.Bool.{Bool, true, false, cond, true≢false}
+use Rattle.rules.specs.LoopsLaws.{cond-keeps}
 use Rattle.rules.specs.Parts.{isRunning, isActive, abortedPassage, withStatus, withRound, withAnswer, askedStatus, toldStatus}
 use Rattle.rules.specs.Rounds.{openedPassage, closedPassage}
-use Rattle.rules.specs.RangesLaws.{cond-keeps}
 use Rattle.runs.specs.Types.{Figures, Kind, Phase, Status, Visit, Asked, Told, Body}
 use Rattle.runs.specs.View.{View}
 use Rattle.runs.specs.WatchKept.{Ending, BodyKeeps, PassageKeeps, aborted-free, aborted-running, aborted-active}

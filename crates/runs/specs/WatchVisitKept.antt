@@ -4,11 +4,10 @@ use native.Mathlib.Omega.{arith}
 use mathlib.Core.Path.{_≡_, refl, sym, subst}
 use mathlib.Core.Logic.{_⊎_, inl, inr}
 use mathlib.Core.Bool.{Bool, true, false, cond, false≢true}
-use Rattle.rules.specs.LoopsLaws.{either}
+use Rattle.rules.specs.LoopsLaws.{either, cond-keeps}
 use Rattle.rules.specs.Tables.{noVisit}
 use Rattle.rules.specs.Parts.{quieted, newVisit, countSent, countReceived, whereThere, askedVisit, toldVisit}
 use Rattle.rules.specs.Calls.{calledVisit}
-use Rattle.rules.specs.RangesLaws.{cond-keeps}
 use Rattle.runs.specs.Types.{Visit, Call, Asked, Told, Body}
 use Rattle.runs.specs.View.{View}
 use Rattle.runs.specs.WatchKept.{BodyKeeps, VisitKeeps}

@@ -13,8 +13,7 @@ use Rattle.rules.specs.declared.steps.Step.{Step}
 use Rattle.rules.specs.declared.steps.Reading.{Reading}
 use Rattle.rules.specs.declared.steps.SheetAnswer.{SheetAnswer}
 use Rattle.rules.specs.Listing.{digitsOf, decimalOf}
-use Rattle.rules.specs.LoopsLaws.{either}
-use Rattle.rules.specs.RangesLaws.{cond-keeps}
+use Rattle.rules.specs.LoopsLaws.{either, cond-keeps}
 use Rattle.rules.specs.Record.{stepOfRecord}
 use Rattle.rules.specs.RecordLaws.{each-at, Bytes16, StepFits, read-fits}
 use Rattle.rules.specs.Sheet.{recordAt}

@@ -7,8 +7,7 @@ use mathlib.Core.Bool.{Bool, true, false, cond, _&&_}
 use mathlib.Core.List.{List, [], _∷_}
 use lib.Dec.{ltb, eqb}
 use lib.ListN.{length, getD, length-append, length-set}
-use Rattle.rules.specs.LoopsLaws.{either}
-use Rattle.rules.specs.RangesLaws.{cond-keeps}
+use Rattle.rules.specs.LoopsLaws.{either, cond-keeps}
 use Rattle.words.specs.Types.{Slot, Fault, Mode, Scan, Verdict, Stop, Reader}
 use Rattle.words.specs.Grammar.{edgeCount, edgeOf, edgeAt, slotAt, mostIn, rawNode, said, putTwo, putFour, stored}
 use Rattle.words.specs.Scan.{isSpace, isHash, isLetter, isDigit, hexValue, at, blank, wrong, misplaced, followed, wordTaken, filled, numberTaken, endBy, endOf, notedBy, noted, hexTaken, hexNext, lettered, numbered, begun, byteBy, liveNext, nextBy, scanNext, verdictOf, lineMost, recordMost, linesMost, reading, stopped, judged, lineEnded, byteRead, nextWhile, readerNext, givesRecord, given, Read, unread, readNext, readAll, textRead}

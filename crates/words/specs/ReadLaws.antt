@@ -12,8 +12,7 @@ use lib.Dec.{ltb, eqb}
 use lib.ListN.{length, getD, take}
 use lib.Seq.{take-suc}
 use Rattle.rules.specs.Loops.{oneIf}
-use Rattle.rules.specs.LoopsLaws.{and-right, either}
-use Rattle.rules.specs.RangesLaws.{cond-keeps}
+use Rattle.rules.specs.LoopsLaws.{and-right, either, cond-keeps}
 use Rattle.words.specs.Types.{Fault, Verdict, Stop, Reader}
 use Rattle.words.specs.Scan.{blank, scanNext, reading, stopped, isGoing, saysRecord, verdictOf, endOf, lineMost, recordMost, linesMost, readerNext, givesRecord, given, Read, unread, readNext, readAll, textRead}
 use Rattle.words.specs.TextLaws.{read-append}

@@ -4,7 +4,7 @@ use mathlib.Core.Path.{_≡_, refl, sym, ap, _∙_}
 use mathlib.Core.Bool.{Bool, true, cond}
 use mathlib.Core.List.{List, [], _∷_}
 use lib.Dec.{ltb, eqb}
-use Rattle.rules.specs.RangesLaws.{cond-keeps}
+use Rattle.rules.specs.LoopsLaws.{cond-keeps}
 use Rattle.words.specs.Types.{Fault, Mode, Scan}
 use Rattle.words.specs.Grammar.{tickWord, beginWord, invokeWord, refreshWord, terminateWord, prepareWord, askWord, closeWord, tellWord, abortWord, deliverWord, dropWord, sweepWord, crashWord, recoverWord, retireWord, rawWord, byWord, homeWord, slotWord, quiesceWord, releaseWord, atWord, readWord, writeWord, operationWord, objectWord, valueWord, edgeCount, edgeOf, edgeAt, slotAt, mostIn}
 use Rattle.words.specs.Scan.{isSpace, followed, misplaced, wordTaken, filled, numberTaken, endBy, endOf, notedBy, noted, nextBy, scanNext, scanAll, verdictBy, verdictOf}

@@ -14,12 +14,12 @@ use Rattle.words.specs.Say.{recordText}
 
 -- ---- what each refusal means, in a short phrase
 
--- the bytes of a text, one for each letter
+-- the bytes of a text in plain letters, one for each
 abbrev pub textBytes : String → List ℕ
 textBytes no-more = []
 textBytes (letter then more) = code letter ∷ textBytes more
 
--- the phrase of refusal number n stands at place n; a place with no phrase is no refusal's number
+-- the phrase of refusal number n stands at place n; a place with no phrase is no refusal's (`refusal-has-phrase`, in telling)
 unfoldable pub refusalPhrases : List String
 refusalPhrases =
     ""  -- 0

@@ -9,9 +9,9 @@ use mathlib.Core.List.{List, [], _∷_, _++_, append-nil, append-assoc}
 use borrow.Author.Tests.{lt-ltb, ne-eqb}
 use lib.Dec.{ltb, eqb}
 use lib.ListN.{length, length-append}
+use Rattle.rules.specs.LoopsLaws.{cond-keeps}
 use Rattle.rules.specs.Listing.{digitsOf}
 use Rattle.rules.specs.Record.{stepOfRecord}
-use Rattle.rules.specs.RangesLaws.{cond-keeps}
 use Rattle.rules.specs.RecordLaws.{Bytes16}
 use Rattle.words.specs.Types.{Scan, Step, Reading}
 use Rattle.words.specs.Grammar.{rawWord}

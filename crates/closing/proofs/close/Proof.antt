@@ -1,4 +1,3 @@
--- `closing::close` meets its contract: its checks are tried in the order of the definition's list, and so it is settled as that says.
 use mathlib.Core.Path.{_≡_}
 use borrow.Author.Needs.{needs}
 use Rattle.rules.specs.Rounds.{closeChecks, closeOf}

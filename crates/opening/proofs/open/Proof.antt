@@ -1,4 +1,3 @@
--- `opening::open` meets its contract: its checks are tried in the order of the definition's list, and so it is settled as that says.
 use mathlib.Core.Path.{_≡_}
 use borrow.Author.Needs.{needs}
 use Rattle.rules.specs.Rounds.{openChecks, openOf}
@@ -8,7 +7,9 @@ use Rattle.opening.proofs.open.Statement.{statement}
 use Rattle.opening.proofs.open.Tie as tie
 
 opened-requires : tie.Need-opened-requires
-opened-requires c κs = c .before .before .before .before .before .before .before .before .before .before .before .before .before .before .before .before .before .before .before .pre
+opened-requires c κs =
+    let back = c .before .before .before .before .before .before .before .before .before in
+    back .before .before .before .before .before .before .before .before .before .before .pre
 
 returns : tie.Need-returns
 unfolding openOf

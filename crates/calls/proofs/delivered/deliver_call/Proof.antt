@@ -1,4 +1,3 @@
--- `calls::delivered::deliver_call` meets its contract: its checks are tried in the order of the definition's list, and so it is settled as that says.
 use mathlib.Core.Path.{_≡_}
 use borrow.Author.Needs.{needs}
 use Rattle.rules.specs.Calls.{callChecks, deliverCallOf}
@@ -8,7 +7,9 @@ use Rattle.calls.proofs.delivered.deliver_call.Statement.{statement}
 use Rattle.calls.proofs.delivered.deliver_call.Tie as tie
 
 called-requires : tie.Need-called-requires
-called-requires c κs = c .before .before .before .before .before .before .before .before .before .before .before .before .before .before .before .before .before .before .before .before .pre
+called-requires c κs =
+    let back = c .before .before .before .before .before .before .before .before .before .before in
+    back .before .before .before .before .before .before .before .before .before .before .pre
 
 returns : tie.Need-returns
 unfolding deliverCallOf

@@ -1,4 +1,3 @@
--- `calls::invoked::invoke` meets its contract: its checks are tried in the order of the definition's list, and so it is settled as that says.
 use mathlib.Core.Path.{_≡_}
 use borrow.Author.Needs.{needs}
 use Rattle.rules.specs.Calls.{invokeChecks, invokeOf}
@@ -8,7 +7,9 @@ use Rattle.calls.proofs.invoked.invoke.Statement.{statement}
 use Rattle.calls.proofs.invoked.invoke.Tie as tie
 
 invoked-requires : tie.Need-invoked-requires
-invoked-requires c κs = c .before .before .before .before .before .before .before .before .before .before .before .before .before .before .before .before .before .before .before .before .before .before .pre
+invoked-requires c κs =
+    let back = c .before .before .before .before .before .before .before .before .before .before .before in
+    back .before .before .before .before .before .before .before .before .before .before .before .pre
 
 returns : tie.Need-returns
 unfolding invokeOf

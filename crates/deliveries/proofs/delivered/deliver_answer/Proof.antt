@@ -1,4 +1,3 @@
--- `deliveries::delivered::deliver_answer` meets its contract: its checks are tried in the order of the definition's list, and so it is settled as that says.
 use mathlib.Core.Path.{_≡_}
 use borrow.Author.Needs.{needs}
 use Rattle.rules.specs.Calls.{answerChecks, deliverAnswerOf}
@@ -8,7 +7,9 @@ use Rattle.deliveries.proofs.delivered.deliver_answer.Statement.{statem
 use Rattle.deliveries.proofs.delivered.deliver_answer.Tie as tie
 
 answered-at-requires : tie.Need-answered-at-requires
-answered-at-requires c κs = c .before .before .before .before .before .before .before .before .before .before .before .before .before .before .before .before .pre
+answered-at-requires c κs =
+    let back = c .before .before .before .before .before .before .before .before in
+    back .before .before .before .before .before .before .before .before .pre
 
 returns : tie.Need-returns
 unfolding deliverAnswerOf

@@ -1,4 +1,3 @@
--- `deliveries::dropped::drop` meets its contract: its checks are tried in the order of the definition's list, and so it is settled as that says.
 use borrow.Author.Needs.{needs}
 use Rattle.rules.specs.Calls.{dropOf}
 use Rattle.checks.specs.OrderLaws.{settled-first}
