@@ -1003,7 +1003,7 @@ static const char *const met_name[NOT_A_DELIVERY] = {
     "call", "refresh-1", "terminate-1", "prepare-1", "refresh-2", "terminate-2", "prepare-2", "answer", "empty"
 };
 
-enum { NUMBERS = 13, LINES = 256, EDGES = 12 };
+enum { NUMBERS = 21, LINES = 256, EDGES = 12 };
 
 /* How often each pair occurred in this sheet; and each reason for a refusal, and each edge, under its name and the number that was given. */
 static struct {

@@ -11,7 +11,7 @@ use Rattle.telling.specs.declared.Phrase.{Phrase}
 
 -- how long a phrase is, and its bytes with spaces behind them
 abbrev pub row : String → Phrase
-row s = (length (textBytes s), textBytes s ++ replicate (26 - length (textBytes s)) 32)
+row s = (length (textBytes s), textBytes s ++ replicate (32 - length (textBytes s)) 32)
 
 -- at each place of the table; past its end there is an empty row
 pub row-says :

@@ -19,7 +19,7 @@ use Rattle.rules.specs.RecordLaws.{each-at, Bytes16, StepFits, read-fits}
 use Rattle.rules.specs.Sheet.{recordAt}
 use Rattle.words.specs.Say.{Token, lettersOf, writeTokens, readTokens, readValueTokens, otherTokens, operationTokens, restText, stepText, rawText, recordBy, recordText}
 use Rattle.words.specs.TextLaws.{cond-length, digits-length, hex-length}
-use Rattle.words.specs.Tell.{refusalPhrases, refusalPhrase, sheetPhrase, acceptedTold, refusedTold}
+use Rattle.words.specs.Tell.{refusalPhrases, sheetPhrase, acceptedTold, refusedTold}
 use Rattle.telling.specs.Numbers.{numbersTold, numbersLine}
 
 -- ---- digits
@@ -109,20 +109,23 @@ record-bytes part i bytes room =
 
 -- ---- the answer
 
--- computed at each place that has a phrase; past them there is none
-pub phrase-length : (n : ℕ) → length (refusalPhrase n) ≤ 26
-unfolding refusalPhrases
-phrase-length n =
-    ⊎-elim
-    (λ h. each-at (λ k. length (refusalPhrase k) ≤ 26) (length refusalPhrases) (omega arith) n (ltb-true n (length refusalPhrases) h))
-    (λ h. rw (List·getD-eq-default refusalPhrases "" (ltb-false n (length refusalPhrases) h)) (omega arith))
-    (either (ltb n (length refusalPhrases)))
-
 pub accepted-length : (v : ℕ) → length (acceptedTold v) ≤ 23
 accepted-length v = omega (arith, digits-length 20 v)
 
+-- computed at each place that has a phrase
+phrase-told : (n : ℕ) → n < length refusalPhrases → length (refusedTold n) ≤ 56
+unfolding refusalPhrases digitsOf
+phrase-told n h = each-at (λ k. length (refusedTold k) ≤ 56) (length refusalPhrases) (omega arith) n h
+
+-- past them there is a number alone
 pub refused-length : (n : ℕ) → length (refusedTold n) ≤ 56
-refused-length n = simp (length-append) (omega (arith, digits-length 20 n, phrase-length n))
+refused-length n =
+    ⊎-elim
+    (λ h. phrase-told n (ltb-true n (length refusalPhrases) h))
+    (λ h.
+    rw (List·getD-eq-default refusalPhrases "" (ltb-false n (length refusalPhrases) h))
+    (omega (arith, digits-length 20 n, length-append (digitsOf 20 n) (32 ∷ []))))
+    (either (ltb n (length refusalPhrases)))
 
 pub told-length : (n v : ℕ) → length (numbersTold n v) ≤ 56
 told-length n v = cond-length (eqb n 0) (acceptedTold v) (refusedTold n) 56 (omega (arith, accepted-length v)) (refused-length n)

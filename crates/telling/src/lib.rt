@@ -20,25 +20,25 @@ ghost use Rattle.running.specs.Answered.{Holds};
 ghost use Rattle.telling.specs.Numbers.{numbersTold, numbersLine};
 
 // A phrase: how long it is, and its bytes with spaces behind them.
-struct Phrase(usize, [u8; 26]);
+struct Phrase(usize, [u8; 32]);
 
-const NO_PHRASE: Phrase = Phrase(0, [b' '; 26]);
+const NO_PHRASE: Phrase = Phrase(0, [b' '; 32]);
 
 // What each refusal means: the phrase of number n at place n.
 const PHRASES: [Phrase; 21] = [
     NO_PHRASE,
-    Phrase(12, *b"no such step              "),
-    Phrase(26, *b"field or times not allowed"),
-    Phrase(26, *b"no such passage or message"),
-    Phrase(12, *b"site is down              "),
-    Phrase(25, *b"does not fit as it stands "),
-    Phrase(14, *b"no visit there            "),
-    Phrase(24, *b"clock would pass its end  "),
-    Phrase(16, *b"quiesced or dead          "),
-    Phrase(26, *b"wrong round or done before"),
-    Phrase(14, *b"object is held            "),
-    Phrase(12, *b"no room left              "),
-    Phrase(19, *b"round is not closed       "),
+    Phrase(12, *b"no such step                    "),
+    Phrase(26, *b"field or times not allowed      "),
+    Phrase(26, *b"no such passage or message      "),
+    Phrase(12, *b"site is down                    "),
+    Phrase(25, *b"does not fit as it stands       "),
+    Phrase(14, *b"no visit there                  "),
+    Phrase(24, *b"clock would pass its end        "),
+    Phrase(16, *b"quiesced or dead                "),
+    Phrase(26, *b"wrong round or done before      "),
+    Phrase(14, *b"object is held                  "),
+    Phrase(12, *b"no room left                    "),
+    Phrase(19, *b"round is not closed             "),
     NO_PHRASE,
     NO_PHRASE,
     NO_PHRASE,
@@ -46,7 +46,7 @@ const PHRASES: [Phrase; 21] = [
     NO_PHRASE,
     NO_PHRASE,
     NO_PHRASE,
-    Phrase(19, *b"tables out of range       "),
+    Phrase(19, *b"tables out of range             "),
 ];
 
 // The phrase of a refusal number. No other number has one.
@@ -62,7 +62,7 @@ fn phrase_of(number: u64) -> Phrase
 
 // What the refusal of this number means.
 fn put_phrase(out: &mut [u8], at: usize, number: u64) -> usize
-    requires { ⌜ at + 26 ≤ length (now out) ⌝ }
+    requires { ⌜ at + length (refusalPhrase number) ≤ length (now out) ⌝ }
     ensures { λ x. ⌜ Puts (now (out .entry)) at (refusalPhrase number) (now (out .exit)) x ⌝ }
 {
     let phrase = phrase_of(number);

@@ -7,10 +7,10 @@ use Rattle.edges.proofs.main.Statement.{statement}
 use Rattle.edges.proofs.main.Tie as tie
 
 abbrev Inv-loop : tie.InvT-loop
-Inv-loop sheet₀ out₀ case₀ sheet out case = (case ≤ 38)
+Inv-loop sheet₀ out₀ case₀ sheet out case = (case ≤ 100)
 
 abbrev μ-loop : tie.MeasureT-loop
-μ-loop sheet₀ out₀ case₀ sheet out case = 38 - case
+μ-loop sheet₀ out₀ case₀ sheet out case = 100 - case
 
 slice-aggregate-show : tie.Need-slice-aggregate-show Inv-loop μ-loop
 slice-aggregate-show c = sym (length-take-le (c .before .list-front .result) (c .before .list-front .last .1 .1 .0) (c .before .list-front .ensures))

@@ -1,10 +1,9 @@
--- `telling::put_phrase` meets its contract. The part of the row that is put is the phrase, and no phrase is longer than 26 bytes. Assumes nothing.
+-- `telling::put_phrase` meets its contract. The part of the row that is put is the phrase. Assumes nothing.
 use native.Mathlib.Omega.{arith}
 use mathlib.Core.Path.{sym, ap}
 use lib.ListN.{length}
 use lib.Seq.{length-take-le}
 use borrow.Author.Needs.{needs}
-use Rattle.telling.specs.Lengths.{phrase-length}
 use Rattle.telling.proofs.put_phrase.Statement.{statement}
 use Rattle.telling.proofs.put_phrase.Tie as tie
 
@@ -15,8 +14,7 @@ slice-aggregate-put-text c =
 
 put-text-requires : tie.Need-put-text-requires
 put-text-requires c κs =
-    let number = c .before .before .before .before .before .args .number in
-    omega (arith, phrase-length number, ap length (c .before .before .before .phrase-of .ensures .1))
+    omega (arith, ap length (c .before .before .before .phrase-of .ensures .1))
 
 returns : tie.Need-returns
 returns c = rw (c .before .before .before .before .before .before .phrase-of .ensures .1) at (c .before .before .put-text .ensures)

@@ -1,6 +1,7 @@
 use Rattle.words.specs.TextLaws.{digits-length}
 use Rattle.lines.specs.Text.{put-both}
-use lib.ListN.{length}
+use lib.ListN.{length, length-append}
+use Rattle.telling.specs.Lengths.{refused-length}
 use Prim.Native.Nat.{_≤_}
 use native.Mathlib.Omega.{arith}
 use borrow.Author.Needs.{needs}
@@ -11,7 +12,9 @@ put-byte-requires : tie.Need-put-byte-requires
 put-byte-requires c κs = omega (arith, digits-length 20 (c .before .before .before .before .before .before .before .before .before .before .before .args .number))
 
 put-phrase-requires : tie.Need-put-phrase-requires
-put-phrase-requires c κs = omega (arith, digits-length 20 (c .before .before .before .before .before .before .before .before .before .before .before .before .before .before .before .args .number))
+put-phrase-requires c κs =
+    let number = c .before .before .before .before .before .before .before .before .before .before .before .before .before .before .before .args .number in
+    omega (arith, simp length-append at (refused-length number))
 
 returns : tie.Need-returns
 returns c = let l : c .before .before .before .before .before .before .before .before .before .before .before .before .before .before .before .before .before .before .args .at ≤ length (c .before .before .before .before .before .before .before .before .before .before .before .before .before .before .before .before .before .before .args .out .now) = omega arith in
