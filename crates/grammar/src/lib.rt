@@ -6,7 +6,7 @@ use words::grammar::Slot;
 ghost use Prim.Native.Nat.{_+_, _≤_, _<_};
 ghost use mathlib.Core.Path.{_≡_};
 ghost use Rattle.rules.specs.Loops.{firstNext};
-ghost use Rattle.words.specs.Grammar.{edgeOf, edgeAt, leadsFrom, slotAt};
+ghost use Rattle.words.specs.Grammar.{edgeOf, edgeAt, leadsFrom, slotAt, mayEnd};
 
 // Where each word leads, a row to a word: tick, begin, invoke, refresh, terminate, prepare, ask, close, tell, abort, deliver, drop, sweep, crash, recover, retire, raw, by, home, slot, quiesce, release, at, at, read, write, operation, object, value, object, value.
 const FROM: [u8; 31] = [
@@ -348,4 +348,11 @@ pub fn edge_at(node: u8, word: u64) -> usize
         k += 1;
     }
     found
+}
+
+// Where a line may end.
+pub fn may_end(node: u8) -> bool
+    ensures { λ r. ⌜ r ≡ mayEnd node ⌝ }
+{
+    (node == 0) | (node == 1) | (node == 25)
 }

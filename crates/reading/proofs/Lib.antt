@@ -1,2 +1,2 @@
 -- Laws that the proofs of reading cite. Assumes nothing.
-pub mod Phrases
+pub mod Answering

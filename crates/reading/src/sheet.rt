@@ -2,11 +2,9 @@
 use crate::reader::gives_record;
 use crate::reader::reader_next;
 use crate::reader::unread;
-use lines::put_byte;
-use lines::put_digits;
+use faults::named::put_fault_line;
 use scanning::line::end_of;
 use texts::put_text;
-use words::scan::Fault;
 use words::scan::Reader;
 use words::scan::Stop;
 ghost use Prim.Native.Nat.{_+_, _*_, _≤_, _<_};
@@ -14,10 +12,10 @@ ghost use mathlib.Core.Path.{_≡_};
 ghost use lib.ListN.{length};
 ghost use Rattle.lines.specs.Text.{Puts};
 ghost use Rattle.words.specs.Scan.{readerNext, given, textRead};
-ghost use Rattle.words.specs.Sheets.{trailerOf, phraseOf, faultLine, answerText, sheetText};
+ghost use Rattle.words.specs.Sheets.{trailerOf, answerText, unmarked, sheetText};
 
 // The whole text, and what is wrong with it, if something is.
-pub fn read_text(text: &[u8]) -> Reader
+fn read_text(text: &[u8]) -> Reader
     ensures { λ r. ⌜ r ≡ textRead (now (text .entry)) .reader ⌝ }
 {
     let mut r = unread();
@@ -74,45 +72,32 @@ fn put_trailer(out: &mut [u8], at: usize) -> usize
     put_text(out, at, &bytes)
 }
 
-fn put_phrase(out: &mut [u8], at: usize, f: Fault) -> usize
-    requires { ⌜ at + 16 ≤ length (now out) ⌝ }
-    ensures { λ x. ⌜ Puts (now (out .entry)) at (phraseOf f) (now (out .exit)) x ⌝ }
-{
-    match f {
-        Fault::UnknownWord => put_text(out, at, b"unknown word"),
-        Fault::MissingField => put_text(out, at, b"missing field"),
-        Fault::TooLarge => put_text(out, at, b"number too large"),
-        Fault::LineTooLong => put_text(out, at, b"line too long"),
-        Fault::TooManyLines => put_text(out, at, b"too many lines"),
-    }
-}
-
-// "line ", its number, ": " and what is wrong.
-fn put_fault_line(out: &mut [u8], line: u64, f: Fault) -> usize
-    requires { ⌜ 64 ≤ length (now out) ⌝ }
-    ensures { λ x. ⌜ Puts (now (out .entry)) 0 (faultLine line f) (now (out .exit)) x ⌝ }
-{
-    let after_word = put_text(out, 0, b"line ");
-    let after_number = put_digits(out, after_word, 20, line);
-    let after_colon = put_text(out, after_number, b": ");
-    let after_phrase = put_phrase(out, after_colon, f);
-    put_byte(out, after_phrase, b'\n')
-}
-
 // The sheet that a text makes, or the first bad line by its number and what is wrong.
 fn put_answer(text: &[u8], out: &mut [u8; 65536]) -> usize
     ensures { λ x. ⌜ Puts (now (out .entry)) 0 (answerText (now (text .entry))) (now (out .exit)) x × (x ≤ length (now (out .exit))) ⌝ }
 {
     let r = read_text(text);
-    let line = r.lines as u64 + 1;
     let stop = r.stop;
     match stop {
         Stop::Going => {
             let at = put_records(text, out);
             put_trailer(out, at)
         }
-        Stop::At(f) => put_fault_line(out, line, f),
+        Stop::At(f) => put_fault_line(out, text, r.lines, f),
     }
+}
+
+// The text without the three bytes that may stand before it.
+fn unmarked(text: &[u8]) -> &[u8]
+    ensures { λ r. ⌜ now r ≡ unmarked (now (text .entry)) ⌝ }
+{
+    if text.len() < 3 {
+        return text;
+    }
+    if (text[0] == 239) & (text[1] == 187) & (text[2] == 191) {
+        return &text[3..];
+    }
+    text
 }
 
 // The sheet that a text of words makes, at the front of the caller's buffer, or the line that names what is wrong.
@@ -123,5 +108,5 @@ pub fn put_sheet(text: &[u8], out: &mut [u8; 65536]) -> usize
     if 524288 < text.len() {
         return put_text(out, 0, b"text too long\n");
     }
-    put_answer(text, out)
+    put_answer(unmarked(text), out)
 }

@@ -3,25 +3,25 @@ ghost use mathlib.Core.Path.{_≡_};
 ghost use Rattle.words.specs.Scan.{isSpace, isHash, isLetter, isDigit, hexValue};
 
 // A space, a tab or a carriage return.
-pub(crate) fn is_space(b: u8) -> bool
+pub fn is_space(b: u8) -> bool
     ensures { λ r. ⌜ r ≡ isSpace b ⌝ }
 {
     (b == 32) | (b == 9) | (b == 13)
 }
 
-pub(crate) fn is_hash(b: u8) -> bool
+pub fn is_hash(b: u8) -> bool
     ensures { λ r. ⌜ r ≡ isHash b ⌝ }
 {
     b == 35
 }
 
-pub(crate) fn is_letter(b: u8) -> bool
+pub fn is_letter(b: u8) -> bool
     ensures { λ r. ⌜ r ≡ isLetter b ⌝ }
 {
     (97 <= b) & (b <= 122)
 }
 
-pub(crate) fn is_digit(b: u8) -> bool
+pub fn is_digit(b: u8) -> bool
     ensures { λ r. ⌜ r ≡ isDigit b ⌝ }
 {
     (48 <= b) & (b <= 57)

@@ -2,7 +2,7 @@
 use words::grammar::Slot;
 ghost use Prim.Native.Nat.{_+_, _≤_, _<_};
 ghost use mathlib.Core.Path.{_≡_};
-ghost use Rattle.words.specs.Grammar.{mostIn, mayEnd, said, putOne, putTwo, putFour, stored};
+ghost use Rattle.words.specs.Grammar.{mostIn, said, putOne, putTwo, putFour, stored};
 
 // The largest number that so many bytes hold.
 pub(crate) fn most_in(width: u8) -> u64
@@ -15,13 +15,6 @@ pub(crate) fn most_in(width: u8) -> u64
         return 65535;
     }
     4294967295
-}
-
-// Where a line may end.
-pub(crate) fn may_end(node: u8) -> bool
-    ensures { λ r. ⌜ r ≡ mayEnd node ⌝ }
-{
-    (node == 0) | (node == 1) | (node == 25)
 }
 
 // A word's own byte.

@@ -1,5 +1,5 @@
 // A line of words, byte by byte, into a record.
 // Each function equals its definition in words' specs/Scan.antt.
-mod bytes;
+pub mod bytes;
 mod fields;
 pub mod line;

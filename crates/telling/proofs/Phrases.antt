@@ -6,7 +6,7 @@ use mathlib.Core.Path.{_≡_, refl}
 use mathlib.Core.List.{List, [], _∷_, _++_, map}
 use lib.ListN.{length, getD, take, replicate, length-append}
 use lib.Seq.{take-at}
-use Rattle.words.specs.Tell.{textBytes}
+use Rattle.words.specs.Say.{textBytes}
 use Rattle.telling.specs.declared.Phrase.{Phrase}
 
 -- how long a phrase is, and its bytes with spaces behind them

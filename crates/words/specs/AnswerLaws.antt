@@ -1,11 +1,11 @@
 -- Every text is answered: by a sheet that is taken and holds the records read, or by its first wrong line. Assumes nothing.
-use Prim.Native.Nat.{ℕ, suc, _+_, _*_, _≤_, _<_}
+use Prim.Native.Nat.{ℕ, _+_, _*_, _≤_, _<_}
 use native.Mathlib.Omega.{arith}
 use native.Mathlib.Nat.{add-zero}
-use mathlib.Core.Path.{_≡_, refl, sym, ap, _∙_, subst}
+use mathlib.Core.Path.{_≡_, refl, sym, ap, _∙_}
 use mathlib.Core.Logic.{⊎-elim}
-use mathlib.Core.Bool.{Bool, true, false, cond, _&&_}
-use mathlib.Core.List.{List, [], _∷_, _++_, append-nil}
+use mathlib.Core.Bool.{_&&_}
+use mathlib.Core.List.{List, [], _∷_, _++_}
 use borrow.Author.Tests.{ltb-true, ltb-false, eqb-true, lt-ltb, le-ltb}
 use lib.Dec.{ltb, eqb}
 use lib.ListN.{length, getD, length-append}
@@ -16,10 +16,13 @@ use Rattle.rules.specs.declared.steps.SheetAnswer.{SheetAnswer}
 use Rattle.rules.specs.Sheet.{trailerAt, sheetAnswer, sheetRecords}
 use Rattle.rules.specs.SheetLaws.{Whole, taken-whole}
 use Rattle.rules.specs.Listing.{decimalOf}
-use Rattle.words.specs.Types.{Fault, Scan, Stop, Verdict, Reader}
-use Rattle.words.specs.Scan.{blank, scanNext, scanAll, endOf, verdictOf, lineMost, recordMost, linesMost, reading, stopped, judged, lineEnded, byteRead, nextWhile, readerNext, givesRecord, given, Read, unread, readNext, readAll, textRead}
-use Rattle.words.specs.Sheets.{sheetOf, phraseOf, faultLine, answerText, textMost, longLine, sheetText}
-use Rattle.words.specs.TextLaws.{read-append, going}
+use Rattle.words.specs.Types.{Fault, Stop, Verdict, Reader}
+use Rattle.words.specs.Scan.{blank, scanAll, endOf, verdictOf, lineMost, linesMost, reading, stopped, readerNext, Read, unread, readNext, readAll, textRead}
+use Rattle.words.specs.Say.{textBytes}
+use Rattle.words.specs.Faults.{lineBehind, faultText, faultLine}
+use Rattle.words.specs.Sheets.{sheetOf, answerText, textMost, longLine, unmarked, sheetText}
+use Rattle.words.specs.TextLaws.{OneLine, read-append, going, line-bytes}
+use Rattle.words.specs.LineLaws.{lined-by, stopped-stays, last-newline, line-found}
 use Rattle.words.specs.SheetsLaws.{made-taken, made-holds}
 use Rattle.words.specs.KeptLaws.{Kept, text-kept}
 
@@ -30,46 +33,7 @@ abbrev pub newlinesIn : List ℕ → ℕ
 newlinesIn [] = 0
 newlinesIn (b ∷ bs) = oneIf (eqb b 10) + newlinesIn bs
 
--- where reading goes on, a newline ends a line, and no other byte does; where it stops, the line is the one under way
-abbrev LinesBy : Stop → ℕ → ℕ → Bool → Type 0
-LinesBy Stop.Going now before newline = now ≡ before + oneIf newline
-LinesBy (Stop.At f) now before newline = now ≡ before
-
-abbrev Lined : Reader → Reader → Bool → Type 0
-Lined now before newline = LinesBy (now .stop) (now .lines) (before .lines) newline
-
-cond-lined : (t : Bool) (x y r : Reader) (newline : Bool) → Lined x r newline → Lined y r newline → Lined (cond t x y) r newline
-cond-lined true x y r newline p q = p
-cond-lined false x y r newline p q = q
-
-judged-lined : (r : Reader) (v : Verdict) → Lined (judged r v) r true
-judged-lined r Verdict.Blank = refl
-judged-lined r Verdict.Record = cond-lined (ltb (r .count) recordMost) (reading (r .lines + 1) (r .count + 1) 0 blank) (stopped r Fault.TooManyLines) r true refl refl
-judged-lined r (Verdict.Wrong f) = refl
-
-end-lined : (r : Reader) → Lined (lineEnded r) r true
-end-lined r = cond-lined (ltb (r .lines) linesMost) (judged r (verdictOf (endOf (r .scan)))) (stopped r Fault.TooManyLines) r true (judged-lined r (verdictOf (endOf (r .scan)))) refl
-
-byte-lined : (r : Reader) (b : ℕ) → Lined (byteRead r b) r false
-byte-lined r b = cond-lined (ltb (r .length) lineMost) (reading (r .lines) (r .count) (r .length + 1) (scanNext (r .scan) b)) (stopped r Fault.LineTooLong) r false (sym (add-zero (r .lines))) refl
-
-newline-lined : (newline : Bool) (r : Reader) (b : ℕ) → Lined (cond newline (lineEnded r) (byteRead r b)) r newline
-newline-lined true r b = end-lined r
-newline-lined false r b = byte-lined r b
-
-next-lined : (r : Reader) (b : ℕ) → r .stop ≡ Stop.Going → Lined (readerNext r b) r (eqb b 10)
-unfolding readerNext
-next-lined r b e = subst (λ (s : Stop). Lined (nextWhile s r b) r (eqb b 10)) (sym e) (newline-lined (eqb b 10) r b)
-
 -- ---- the first wrong line
-
--- nothing is read after it
-stopped-stays : (t : Read) (bs : List ℕ) (f : Fault) → t .reader .stop ≡ Stop.At f → readAll t bs .reader ≡ t .reader
-unfolding readAll readNext readerNext
-stopped-stays t [] f e = refl
-stopped-stays t (b ∷ bs) f e =
-    let same : readNext t b .reader ≡ t .reader = ap (λ (s : Stop). nextWhile s (t .reader) b) e in
-    stopped-stays (readNext t b) bs f (ap (λ (r : Reader). r .stop) same ∙ e) ∙ same
 
 -- all is well up to the byte at which reading stops, and the line under way is the one that is wrong
 record Stops (t : Read) (text : List ℕ) (f : Fault) : Type 0 where
@@ -91,7 +55,7 @@ stops-by :
 unfolding readAll readNext
 stops-by Stop.Going t b bs f e g a more =
     let s : Stops (readNext t b) bs f = more g in
-    let l : readerNext (t .reader) b .lines ≡ t .reader .lines + oneIf (eqb b 10) = subst (λ (x : Stop). LinesBy x (readerNext (t .reader) b .lines) (t .reader .lines) (eqb b 10)) g (next-lined (t .reader) b e) in
+    let l : readerNext (t .reader) b .lines ≡ t .reader .lines + oneIf (eqb b 10) = lined-by Stop.Going (t .reader) b e g .0 in
     let k : readerNext (t .reader) b .lines + newlinesIn (s .front) ≡ readAll (readNext t b) bs .reader .lines = s .lines in
     record {
       front = b ∷ s .front;
@@ -104,7 +68,7 @@ stops-by Stop.Going t b bs f e g a more =
     }
 stops-by (Stop.At x) t b bs f e g a more =
     let stays : readAll (readNext t b) bs .reader ≡ readerNext (t .reader) b = stopped-stays (readNext t b) bs x g in
-    let l : readerNext (t .reader) b .lines ≡ t .reader .lines = subst (λ (y : Stop). LinesBy y (readerNext (t .reader) b .lines) (t .reader .lines) (eqb b 10)) g (next-lined (t .reader) b e) in
+    let l : readerNext (t .reader) b .lines ≡ t .reader .lines = lined-by (Stop.At x) (t .reader) b e g in
     record {
       front = [];
       byte = b;
@@ -157,52 +121,66 @@ module _ (text : List ℕ) where
   unfolding sheetText
   text-long long = rw (lt-ltb textMost (length text) long)
 
-  -- a text whose every line is well gives the sheet of its records
-  pub text-sheet : length text ≤ textMost → textRead text .reader .stop ≡ Stop.Going → sheetText text ≡ sheetOf (textRead text .records)
-  unfolding sheetText answerText
-  text-sheet short going = rw (le-ltb textMost (length text) short, going)
+  module _ (short : length text ≤ textMost) where
+    -- any other is read without the mark at its start
+    pub text-short : sheetText text ≡ answerText (unmarked text)
+    unfolding sheetText
+    text-short = rw (le-ltb textMost (length text) short)
 
-  -- and that sheet is taken and holds them
-  pub text-taken : length text ≤ textMost → textRead text .reader .stop ≡ Stop.Going → sheetAnswer (sheetText text) ≡ SheetAnswer.Taken
-  text-taken short going =
-      let k : Kept (textRead text) = text-kept text in
-      let n : length (textRead text .records) ≡ 16 * textRead text .reader .count = k .counted in
-      let m : textRead text .reader .count ≤ 4095 = k .most in
-      rw (text-sheet short going) (made-taken (textRead text .records) (omega arith) (omega arith))
+    -- a text whose every line is well gives the sheet of its records
+    module _ (going : textRead (unmarked text) .reader .stop ≡ Stop.Going) where
+      pub text-sheet : sheetText text ≡ sheetOf (textRead (unmarked text) .records)
+      unfolding answerText
+      text-sheet = rw (text-short, going)
 
-  pub text-holds : length text ≤ textMost → textRead text .reader .stop ≡ Stop.Going → sheetRecords (sheetText text) ≡ textRead text .records
-  text-holds short going =
-      let k : Kept (textRead text) = text-kept text in
-      let n : length (textRead text .records) ≡ 16 * textRead text .reader .count = k .counted in
-      let m : textRead text .reader .count ≤ 4095 = k .most in
-      rw (text-sheet short going) (made-holds (textRead text .records) (omega arith) (omega arith))
+      sixteens : Kept (textRead (unmarked text))
+      sixteens = text-kept (unmarked text)
 
-  -- any other gives the line that says what is wrong
-  pub text-fault : (f : Fault) → length text ≤ textMost → textRead text .reader .stop ≡ Stop.At f → sheetText text ≡ faultLine (textRead text .reader .lines + 1) f
-  unfolding sheetText answerText
-  text-fault f short at = rw (le-ltb textMost (length text) short, at)
+      -- and that sheet is taken and holds them
+      pub text-taken : sheetAnswer (sheetText text) ≡ SheetAnswer.Taken
+      text-taken =
+          let n : length (textRead (unmarked text) .records) ≡ 16 * textRead (unmarked text) .reader .count = sixteens .counted in
+          let m : textRead (unmarked text) .reader .count ≤ 4095 = sixteens .most in
+          rw text-sheet (made-taken (textRead (unmarked text) .records) (omega arith) (omega arith))
+
+      pub text-holds : sheetRecords (sheetText text) ≡ textRead (unmarked text) .records
+      text-holds =
+          let n : length (textRead (unmarked text) .records) ≡ 16 * textRead (unmarked text) .reader .count = sixteens .counted in
+          let m : textRead (unmarked text) .reader .count ≤ 4095 = sixteens .most in
+          rw text-sheet (made-holds (textRead (unmarked text) .records) (omega arith) (omega arith))
+
+    -- any other gives the line that says what is wrong
+    pub text-fault :
+        (f : Fault) → textRead (unmarked text) .reader .stop ≡ Stop.At f
+        → sheetText text ≡ faultLine (textRead (unmarked text) .reader .lines + 1) f (lineBehind (textRead (unmarked text) .reader .lines) (unmarked text))
+    unfolding answerText
+    text-fault f at = rw (text-short, at)
 
 -- all three
 pub data Answered (text : List ℕ) : Type 0 where
   Sheet :
       length text ≤ textMost
-      → textRead text .reader .stop ≡ Stop.Going
+      → textRead (unmarked text) .reader .stop ≡ Stop.Going
       → sheetAnswer (sheetText text) ≡ SheetAnswer.Taken
-      → sheetRecords (sheetText text) ≡ textRead text .records
+      → sheetRecords (sheetText text) ≡ textRead (unmarked text) .records
       → Answered text
-  Wrong : (line : ℕ) (f : Fault) → length text ≤ textMost → FirstWrong text line f → sheetText text ≡ faultLine line f → Answered text
+  Wrong :
+      (lines : ℕ) (f : Fault) → length text ≤ textMost → FirstWrong (unmarked text) (lines + 1) f
+      → sheetText text ≡ faultLine (lines + 1) f (lineBehind lines (unmarked text))
+      → Answered text
   Long : textMost < length text → sheetText text ≡ longLine → Answered text
 
-answered-by : (stop : Stop) (text : List ℕ) → length text ≤ textMost → textRead text .reader .stop ≡ stop → Answered text
+answered-by : (stop : Stop) (text : List ℕ) → length text ≤ textMost → textRead (unmarked text) .reader .stop ≡ stop → Answered text
 answered-by Stop.Going text short e = Answered.Sheet short e (text-taken text short e) (text-holds text short e)
-answered-by (Stop.At f) text short e = Answered.Wrong (textRead text .reader .lines + 1) f short (first-wrong text f e) (text-fault text f short e)
+answered-by (Stop.At f) text short e =
+    Answered.Wrong (textRead (unmarked text) .reader .lines) f short (first-wrong (unmarked text) f e) (text-fault text short f e)
 
 -- every text is answered by a sheet, by its first wrong line, or as too long
 pub text-answered : (text : List ℕ) → Answered text
 text-answered text =
     ⊎-elim
     (λ h. Answered.Long (ltb-true textMost (length text) h) (text-long text (ltb-true textMost (length text) h)))
-    (λ h. answered-by (textRead text .reader .stop) text (ltb-false textMost (length text) h) refl)
+    (λ h. answered-by (textRead (unmarked text) .reader .stop) text (ltb-false textMost (length text) h) refl)
     (either (ltb textMost (length text)))
 
 -- ---- a line is no sheet: a sheet ends with its mark, a line with a newline
@@ -219,33 +197,12 @@ line-no-sheet xs e =
     omega (arith, mark, newline)
 
 -- so the line that names what is wrong is never taken for a sheet
-pub fault-no-sheet : (line : ℕ) (f : Fault) → sheetAnswer (faultLine line f) ≡ SheetAnswer.Taken → ⊥
-fault-no-sheet line f e =
-    line-no-sheet ((108 ∷ 105 ∷ 110 ∷ 101 ∷ 32 ∷ []) ++ decimalOf line ++ (58 ∷ 32 ∷ []) ++ phraseOf f) e
+pub fault-no-sheet : (number : ℕ) (f : Fault) (line : List ℕ) → sheetAnswer (faultLine number f line) ≡ SheetAnswer.Taken → ⊥
+unfolding faultLine
+fault-no-sheet number f line e =
+    line-no-sheet (textBytes "line " ++ decimalOf number ++ textBytes ": " ++ faultText f line) e
 
 -- ---- and the other way round: what is wrong with a line after lines that are well is what is said
-
--- the bytes of a line
-abbrev pub OneLine : List ℕ → Type 0
-OneLine [] = Unit {0}
-OneLine (b ∷ bs) = (eqb b 10 ≡ false) × OneLine bs
-
-line-byte :
-    (b lines count n : ℕ) (s : Scan) (records : List ℕ) → eqb b 10 ≡ false → n < 1000
-    → readNext (going lines count n s records) b ≡ going lines count (n + 1) (scanNext s b) records
-unfolding readNext readerNext givesRecord given
-line-byte b lines count n s records other room = rw (other, lt-ltb n 1000 room, append-nil records)
-
-line-scanned :
-    (xs : List ℕ) (lines count n : ℕ) (s : Scan) (records : List ℕ) → OneLine xs → n + length xs ≤ 1000
-    → readAll (going lines count n s records) xs ≡ going lines count (n + length xs) (scanAll s xs) records
-unfolding readAll scanAll
-line-scanned [] lines count n s records p room = rw add-zero
-line-scanned (x ∷ xs) lines count n s records p room =
-    let last : n + 1 + length xs ≡ n + suc (length xs) = omega arith in
-    ap (λ (t : Read). readAll t xs) (line-byte x lines count n s records (p .0) (omega arith))
-    ∙ line-scanned xs lines count (n + 1) (scanNext s x) records (p .1) (omega arith)
-    ∙ ap (λ (k : ℕ). going lines count k (scanAll (scanNext s x) xs) records) last
 
 -- a line that says something wrong: reading stops, and there is no record
 pub wrong-stops : (r : Reader) (f : Fault) → r .stop ≡ Stop.Going → r .lines < linesMost → verdictOf (endOf (r .scan)) ≡ Verdict.Wrong f → readerNext r 10 ≡ stopped r f
@@ -269,16 +226,18 @@ module _ (front line rest : List ℕ) (lines count : ℕ) (records : List ℕ) (
       read-append unread front (line ++ (10 ∷ rest))
       ∙ ap (λ (t : Read). readAll t (line ++ (10 ∷ rest))) well
       ∙ read-append (going lines count 0 blank records) line (10 ∷ rest)
-      ∙ ap (λ (t : Read). readAll (readNext t 10) rest) (line-scanned line lines count 0 blank records one (omega arith))
+      ∙ ap (λ (t : Read). readAll (readNext t 10) rest) (line-bytes line lines count 0 blank records one (omega arith))
       )
       ∙ stopped-stays (readNext (going lines count (0 + length line) (scanAll blank line) records) 10) rest f (ap (λ (x : Reader). x .stop) stops)
       ∙ stops
 
   -- and passwrite names it; the text's last line needs no newline
   pub wrong-named :
-      (text : List ℕ) → front ++ (line ++ (10 ∷ rest)) ≡ text ++ (10 ∷ []) → length text ≤ textMost
-      → sheetText text ≡ faultLine (lines + 1) f
+      (text : List ℕ) → front ++ (line ++ (10 ∷ rest)) ≡ unmarked text ++ (10 ∷ []) → length text ≤ textMost
+      → sheetText text ≡ faultLine (lines + 1) f line
   wrong-named text split fits =
-      let same : textRead text .reader ≡ stopped (reading lines count (0 + length line) (scanAll blank line)) f = ap (λ (t : Read). t .reader) (sym (whole-read text)) ∙ ap (λ (xs : List ℕ). readAll unread xs .reader) (sym split) ∙ line-stops in
-      text-fault text f fits (ap (λ (r : Reader). r .stop) same)
-      ∙ ap (λ (r : Reader). faultLine (r .lines + 1) f) same
+      let same : textRead (unmarked text) .reader ≡ stopped (reading lines count (0 + length line) (scanAll blank line)) f = ap (λ (t : Read). t .reader) (sym (whole-read (unmarked text))) ∙ ap (λ (xs : List ℕ). readAll unread xs .reader) (sym split) ∙ line-stops in
+      let here : lineBehind lines (unmarked text) ≡ line = sym (last-newline lines (unmarked text)) ∙ ap (λ (xs : List ℕ). lineBehind lines xs) (sym split) ∙ line-found front line rest lines count records well one in
+      text-fault text fits f (ap (λ (r : Reader). r .stop) same)
+      ∙ ap (λ (r : Reader). faultLine (r .lines + 1) f (lineBehind (r .lines) (unmarked text))) same
+      ∙ ap (λ (xs : List ℕ). faultLine (lines + 1) f xs) here

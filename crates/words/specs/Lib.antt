@@ -7,6 +7,7 @@ pub mod Spelling
 pub mod ScanLaws
 pub mod StepLaws
 pub mod RecordLaws
+pub mod Faults
 pub mod Sheets
 pub mod Tell
 pub mod TextLaws
@@ -14,5 +15,7 @@ pub mod SheetsLaws
 pub mod ReadLaws
 pub mod TripLaws
 pub mod KeptLaws
+pub mod LineLaws
 pub mod AnswerLaws
 pub mod NumberLaws
+pub mod FaultLaws

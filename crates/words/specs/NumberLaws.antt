@@ -38,7 +38,7 @@ place-wide node =
     (λ h. ap (λ (s : Slot). eqb (s .width) 0 || eqb (mostIn (s .width) + 1) (256 ^ s .width)) (List·getD-eq-default slots none {n = node} (ltb-false node 31 h)))
     (either (ltb node 31))
 
-or-second : (a b : Bool) → (a || b) ≡ true → a ≡ false → b ≡ true
+pub or-second : (a b : Bool) → (a || b) ≡ true → a ≡ false → b ≡ true
 or-second true b e f = absurd (true≢false f)
 or-second false b e f = e
 

@@ -1,5 +1,7 @@
 -- The writer: the words of a step, the line of a record, the text of a list of records. Assumes nothing.
 use Prim.Native.Nat.{ℕ, zero, suc, _+_, _/_, _%_, _≤_}
+use Prim.Native.Char.{code}
+use Prim.Native.String.{String, [] as no-more, _∷_ as _then_}
 use mathlib.Core.Bool.{cond}
 use mathlib.Core.Path.{_≡_}
 use mathlib.Core.List.{List, [], _∷_, _++_, map}
@@ -9,6 +11,11 @@ use Rattle.rules.specs.Listing.{digitsOf}
 use Rattle.rules.specs.Record.{stepOfRecord}
 use Rattle.words.specs.Types.{Step, Reading, Piece, Tokens}
 use Rattle.words.specs.Grammar.{tickWord, beginWord, invokeWord, refreshWord, terminateWord, prepareWord, askWord, closeWord, tellWord, abortWord, deliverWord, dropWord, sweepWord, crashWord, recoverWord, retireWord, rawWord, byWord, homeWord, slotWord, quiesceWord, releaseWord, atWord, readWord, writeWord, operationWord, objectWord, valueWord}
+
+-- the bytes of a text in plain letters, one for each
+abbrev pub textBytes : String → List ℕ
+textBytes no-more = []
+textBytes (letter then more) = code letter ∷ textBytes more
 
 -- a word's letters, of which there are at most k
 unfoldable pub lettersOf : ℕ → ℕ → List ℕ

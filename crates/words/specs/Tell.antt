@@ -1,7 +1,6 @@
 -- What passread prints: each record in words with its answer beside it, or the words alone. Assumes nothing.
 use Prim.Native.Nat.{ℕ, zero, suc, _+_, _/_}
-use Prim.Native.Char.{code}
-use Prim.Native.String.{String, [] as no-more, _∷_ as _then_}
+use Prim.Native.String.{String}
 use mathlib.Core.List.{List, [], _∷_, _++_}
 use lib.ListN.{length, getD}
 use Rattle.rules.specs.declared.answers.Answer.{Answer}
@@ -10,14 +9,9 @@ use Rattle.rules.specs.Answers.{refusalNumber}
 use Rattle.rules.specs.Record.{stepRecordOf}
 use Rattle.rules.specs.Sheet.{sheetAnswer, sheetNumber, sheetRecords, recordAt}
 use Rattle.rules.specs.Listing.{decimalOf, printedUpTo}
-use Rattle.words.specs.Say.{recordText}
+use Rattle.words.specs.Say.{textBytes, recordText}
 
 -- ---- what each refusal means, in a short phrase
-
--- the bytes of a text in plain letters, one for each
-abbrev pub textBytes : String → List ℕ
-textBytes no-more = []
-textBytes (letter then more) = code letter ∷ textBytes more
 
 -- the phrase of refusal number n stands at place n; a place with no phrase is no refusal's (`refusal-has-phrase`, in telling)
 unfoldable pub refusalPhrases : List String

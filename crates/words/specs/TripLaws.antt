@@ -1,24 +1,85 @@
 -- From a sheet to words and back: what passwrite makes of the words that passread prints alone. Assumes nothing.
-use Prim.Native.Nat.{ℕ, _+_, _*_, _-_, _/_, _%_, _≤_, _<_}
+use Prim.Native.Nat.{ℕ, zero, suc, _+_, _*_, _-_, _/_, _%_, _≤_, _<_}
 use native.Mathlib.Omega.{arith}
 use native.Mathlib.Nat.{add-zero}
 use mathlib.Core.Path.{_≡_, refl, sym, ap, _∙_}
-use mathlib.Core.Bool.{Bool, true, _&&_}
-use mathlib.Core.List.{List, _++_}
-use borrow.Author.Tests.{le-ltb, eqb-true}
-use lib.Dec.{eqb}
+use mathlib.Core.Logic.{⊎-elim}
+use mathlib.Core.Bool.{Bool, true, false, _&&_, true≢false}
+use mathlib.Core.List.{List, [], _∷_, _++_, append-nil, append-assoc}
+use borrow.Author.Tests.{ltb-true, le-ltb, eqb-true}
+use lib.Dec.{ltb, eqb}
 use lib.ListN.{length, getD, take, drop, take-append-drop, length-drop}
 use lib.Seq.{getD-drop, drop-drop, ext-getD}
-use Rattle.rules.specs.LoopsLaws.{and-left, and-right}
+use Rattle.rules.specs.LoopsLaws.{and-left, and-right, either}
 use Rattle.rules.specs.RecordLaws.{each-at}
 use Rattle.rules.specs.declared.steps.SheetAnswer.{SheetAnswer}
+use Rattle.rules.specs.Record.{stepOfRecord}
 use Rattle.rules.specs.Sheet.{trailerAt, distanceOf, sheetAnswer, sheetRecords, recordsUpTo}
 use Rattle.rules.specs.SheetLaws.{taken-whole, taken-length, records-sixteens}
-use Rattle.words.specs.Say.{linesText}
+use Rattle.words.specs.Types.{Reading}
+use Rattle.words.specs.Grammar.{rawWord}
+use Rattle.words.specs.Say.{Token, lettersOf, wordText, tokenText, restText, firstWord, moreTokens, stepText, hexText, rawText, recordBy, recordText, linesText}
 use Rattle.words.specs.Tell.{plainOf}
-use Rattle.words.specs.Sheets.{trailerOf, sheetOf, answerText, textMost, sheetText}
+use Rattle.words.specs.Sheets.{trailerOf, sheetOf, answerText, textMost, isMarked, unmarked, sheetText}
 use Rattle.words.specs.TextLaws.{lines-length}
 use Rattle.words.specs.SheetsLaws.{records-count, records-are, part-read, sheet-bytes, sheet-most, plain-lines}
+
+-- ---- the mark before a text
+
+-- one mark is blank; a second one is what it was
+pub mark-blank : (text : List ℕ) → unmarked (239 ∷ 187 ∷ 191 ∷ text) ≡ text
+unfolding unmarked
+mark-blank text = refl
+
+marked-starts : (text : List ℕ) → isMarked text ≡ true → text ≡ 239 ∷ 187 ∷ 191 ∷ drop 3 text
+marked-starts [] e = absurd (true≢false (sym e))
+marked-starts (a ∷ []) e = absurd (true≢false (sym (and-right (eqb a 239 && false) false e)))
+marked-starts (a ∷ b ∷ []) e = absurd (true≢false (sym (and-right (eqb a 239 && eqb b 187) false e)))
+marked-starts (a ∷ b ∷ c ∷ text) e =
+    let two = and-left (eqb a 239 && eqb b 187) (eqb c 191) e in
+    rw (eqb-true a 239 (and-left (eqb a 239) (eqb b 187) two), eqb-true b 187 (and-right (eqb a 239) (eqb b 187) two), eqb-true c 191 (and-right (eqb a 239 && eqb b 187) (eqb c 191) e))
+
+-- a text that starts otherwise stays as it is
+pub other-unmarked : (text : List ℕ) → ((rest : List ℕ) → text ≡ 239 ∷ 187 ∷ 191 ∷ rest → ⊥) → unmarked text ≡ text
+unfolding unmarked
+other-unmarked text other =
+    ⊎-elim
+    (λ (h : isMarked text ≡ true). absurd (other (drop 3 text) (marked-starts text h)))
+    (λ (h : isMarked text ≡ false). rw h)
+    (either (isMarked text))
+
+-- words start with a letter
+letters-first : (k w x : ℕ) (rest : List ℕ) → x < 128 → getD (lettersOf k w ++ (x ∷ rest)) 0 0 < 128
+unfolding lettersOf
+letters-first zero w x rest h = h
+letters-first (suc k) w x rest h =
+    ⊎-elim
+    (λ (e : ltb w 32 ≡ true). let few : w < 32 = ltb-true w 32 e in rw e (omega arith))
+    (λ (e : ltb w 32 ≡ false).
+    rw (e, append-assoc (lettersOf k (w / 32)) ((96 + w % 32) ∷ []) (x ∷ rest))
+    (letters-first k (w / 32) (96 + w % 32) (x ∷ rest) (omega arith)))
+    (either (ltb w 32))
+
+step-first : (w : ℕ) (ts : List Token) (rest : List ℕ) → getD ((wordText w ++ restText ts) ++ (10 ∷ rest)) 0 0 < 128
+step-first w [] rest = rw (append-nil (wordText w)) (letters-first 9 w 10 rest (omega arith))
+step-first w (t ∷ ts) rest =
+    rw (append-assoc (wordText w) (restText (t ∷ ts)) (10 ∷ rest))
+    (letters-first 9 w 32 ((tokenText t ++ restText ts) ++ (10 ∷ rest)) (omega arith))
+
+record-first : (r : Reading) (b rest : List ℕ) → getD (recordBy r b ++ (10 ∷ rest)) 0 0 < 128
+unfolding stepText rawText
+record-first Reading.Nothing b rest =
+    rw (append-assoc (wordText rawWord) (32 ∷ hexText b) (10 ∷ rest))
+    (letters-first 9 rawWord 32 (hexText b ++ (10 ∷ rest)) (omega arith))
+record-first (Reading.Known s) b rest = step-first (firstWord s) (moreTokens s) rest
+
+lines-first : (bs : List (List ℕ)) → getD (linesText bs) 0 0 < 128
+unfolding linesText recordText
+lines-first [] = omega arith
+lines-first (b ∷ bs) = record-first (stepOfRecord b) b (linesText bs)
+
+low-unmarked : (text rest : List ℕ) → getD text 0 0 < 128 → text ≡ 239 ∷ 187 ∷ 191 ∷ rest → ⊥
+low-unmarked text rest low e = let first : getD text 0 0 ≡ 239 = ap (λ (l : List ℕ). getD l 0 0) e in omega arith
 
 -- ---- a part of records
 
@@ -39,7 +100,8 @@ unfolding sheetText answerText
 part-comes-back part byte whole short =
     let words = linesText (recordsUpTo part (length part / 16)) in
     let fits : length words ≤ 446355 = part-short part byte short in
-    rw (le-ltb textMost (length words) (omega arith), part-read part byte whole short)
+    let bare : unmarked words ≡ words = other-unmarked words (λ rest e. low-unmarked words rest (lines-first (recordsUpTo part (length part / 16))) e) in
+    rw (le-ltb textMost (length words) (omega arith), bare, part-read part byte whole short)
 
 -- ---- a whole sheet
 

@@ -16,9 +16,14 @@ returns c =
 
 returns-2 : tie.Need-returns-2
 unfolding sheetText
-returns-2 c = (rw (le-ltb 524288 (length (c .before .before .before .before .args .text .now)) (c .before .before .if1 .left)) (c .put-answer .ensures .0), c .put-answer .ensures .1)
+returns-2 c =
+    (rw (le-ltb 524288 (length (c .before .before .before .before .before .args .text .now)) (c .before .before .before .if1 .left), ← c .before .before .unmarked .ensures) (c .put-answer .ensures .0), c .put-answer .ensures .1)
 
 pub put-sheet-spec : {M : Type 1} → statement M
 put-sheet-spec =
     tie.close
-    (tie.spec (λ c. search needs) (λ c κs. search needs) returns (λ c κs. search needs) returns-2)
+    (tie.spec
+    (λ c. search needs) (λ c κs. search needs)
+    returns
+    (λ c κs. search needs) (λ c κs. search needs)
+    returns-2)

@@ -1,0 +1,3 @@
+-- Laws that the proofs of faults cite. Assumes nothing.
+pub mod Finding
+pub mod Choices
