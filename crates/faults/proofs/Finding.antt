@@ -1,4 +1,4 @@
--- A line of a text, byte by byte: where it starts, where it ends, and where in it the fault fell. Assumes nothing.
+-- A line of a text, byte by byte: where it starts, where it ends, where in it the fault fell, and the bytes of it that are shown. Assumes nothing.
 use Prim.Native.Nat.{ℕ, zero, suc, _+_, _-_, _≤_, _<_}
 use native.Mathlib.Omega.{arith}
 use native.Mathlib.Nat.{add-assoc, add-zero}
@@ -16,6 +16,7 @@ use Rattle.words.specs.declared.scan.Mode.{Mode}
 use Rattle.words.specs.declared.scan.Scan.{Scan}
 use Rattle.lines.specs.Text.{Puts, put-none, put-one, put-both}
 use Rattle.words.specs.Scan.{isSpace, isHash, endOf, scanNext, scanAll}
+use Rattle.words.specs.LineLaws.{past-none}
 use Rattle.words.specs.Faults.{linesPast, upToNewline, fromBy, faultFrom, noWord, shownByte, shownUpTo}
 
 -- ---- one byte more of a text
@@ -60,11 +61,6 @@ module _ (text : List ℕ) (i : ℕ) (here : i < length text) where
   line-over from newline e =
       let none : upToNewline (drop i text) ≡ [] = rw (opened, newline) in
       sym (append-nil (take (i - from) (drop from text))) ∙ ap (λ (l : List ℕ). take (i - from) (drop from text) ++ l) (sym none) ∙ e
-
-past-none : (k : ℕ) → linesPast k [] ≡ []
-unfolding linesPast
-past-none zero = refl
-past-none (suc k) = refl
 
 -- at the text's end nothing is left
 pub past-end : (text : List ℕ) (i left : ℕ) → length text ≤ i → drop i text ≡ linesPast left (drop i text)

@@ -5,6 +5,7 @@ use grammar::slot_at;
 use texts::put_letters;
 use texts::put_text;
 use words::grammar::EDGE_COUNT;
+use words::grammar::RAW_NODE;
 ghost use Prim.Native.Nat.{_+_, _≤_, _<_};
 ghost use mathlib.Core.Path.{_≡_};
 ghost use lib.ListN.{length};
@@ -104,14 +105,14 @@ fn put_nothing(out: &mut [u8], at: usize, node: u8) -> usize
 }
 
 // What is expected at this place of the grammar.
-pub(crate) fn put_expected(out: &mut [u8], at: usize, node: u8) -> usize
+pub(crate) fn put_expected_at(out: &mut [u8], at: usize, node: u8) -> usize
     requires { ⌜ at + 414 ≤ length (now out) ⌝ }
     ensures { λ r. ⌜ Puts (now (out .entry)) at (expectedAt node) (now (out .exit)) r × (r ≤ at + 414) ⌝ }
 {
     if node == 0 {
         return put_text(out, at, b"a step");
     }
-    if node == 30 {
+    if node == RAW_NODE {
         return put_text(out, at, b"32 hex digits");
     }
     let slot = slot_at(node);

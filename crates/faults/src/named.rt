@@ -1,5 +1,5 @@
 // The line that names a fault, put into the caller's buffer.
-use crate::expected::put_expected;
+use crate::expected::put_expected_at;
 use crate::found::line_behind;
 use crate::found::no_word;
 use crate::found::spot_in;
@@ -65,12 +65,12 @@ fn put_stood(out: &mut [u8], at: usize, line: &[u8], from: usize) -> usize
 }
 
 // What this place of the grammar takes.
-fn put_takes(out: &mut [u8], at: usize, node: u8) -> usize
+fn put_expected_text(out: &mut [u8], at: usize, node: u8) -> usize
     requires { ⌜ at + 425 ≤ length (now out) ⌝ }
     ensures { λ r. ⌜ Puts (now (out .entry)) at (expectedText node) (now (out .exit)) r × (r ≤ at + 425) ⌝ }
 {
     let from = put_text(out, at, b", ");
-    let after = put_expected(out, from, node);
+    let after = put_expected_at(out, from, node);
     put_text(out, after, b" expected")
 }
 
@@ -81,7 +81,7 @@ fn put_unknown(out: &mut [u8], at: usize, line: &[u8]) -> usize
     let spot = spot_in(line);
     let after_name = put_text(out, at, b"unknown word ");
     let after_word = put_quoted(out, after_name, line, spot.from);
-    put_takes(out, after_word, spot.node)
+    put_expected_text(out, after_word, spot.node)
 }
 
 fn put_missing(out: &mut [u8], at: usize, line: &[u8]) -> usize
@@ -91,10 +91,10 @@ fn put_missing(out: &mut [u8], at: usize, line: &[u8]) -> usize
     let spot = spot_in(line);
     let after_name = put_text(out, at, b"missing field");
     let after_word = put_stood(out, after_name, line, spot.from);
-    put_takes(out, after_word, spot.node)
+    put_expected_text(out, after_word, spot.node)
 }
 
-// What is wrong, and in which line.
+// What is wrong with this line.
 fn put_fault(out: &mut [u8], at: usize, f: Fault, line: &[u8]) -> usize
     requires { ⌜ at + 512 ≤ length (now out) ⌝ }
     ensures { λ r. ⌜ Puts (now (out .entry)) at (faultText f (now (line .entry))) (now (out .exit)) r × (r ≤ at + 512) ⌝ }

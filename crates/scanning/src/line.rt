@@ -13,6 +13,7 @@ use grammar::may_end;
 use grammar::slot_at;
 use words::grammar::EDGE_COUNT;
 use words::grammar::Edge;
+use words::grammar::RAW_NODE;
 use words::grammar::Slot;
 use words::scan::Fault;
 use words::scan::Mode;
@@ -208,7 +209,7 @@ fn begun(s: Scan, b: u8) -> Scan
 fn in_gap(s: Scan, b: u8) -> Scan
     ensures { λ r. ⌜ r ≡ byteBy Mode.Gap s b ⌝ }
 {
-    if s.node == 30 {
+    if s.node == RAW_NODE {
         return hex_next(s, b);
     }
     begun(s, b)
@@ -276,7 +277,7 @@ pub fn scan_next(s: Scan, b: u8) -> Scan
 fn is_record(s: Scan) -> bool
     ensures { λ r. ⌜ r ≡ isRecord s ⌝ }
 {
-    if s.node == 30 {
+    if s.node == RAW_NODE {
         return s.digits == 32;
     }
     may_end(s.node)

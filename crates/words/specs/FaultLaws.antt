@@ -10,7 +10,7 @@ use borrow.Author.Tests.{eqb-true}
 use lib.Dec.{ltb, eqb}
 use lib.ListN.{take}
 use Rattle.rules.specs.Loops.{sumUpTo, firstUpTo}
-use Rattle.rules.specs.Listing.{digitsOf}
+use Rattle.rules.specs.Listing.{digitsOf, decimalOf}
 use Rattle.rules.specs.LoopsLaws.{either, cond-keeps}
 use Rattle.words.specs.Types.{Fault, Mode, Scan}
 use Rattle.words.specs.Grammar.{edgeCount, edgeOf, edgeAt, slotAt, mostIn, rawNode}
@@ -121,7 +121,7 @@ abbrev pub Solid : List ℕ → Type 0
 Solid [] = Unit {0}
 Solid (b ∷ bs) = (isSpace b ≡ false) × (isHash b ≡ false) × Solid bs
 
-pub shown-solid : (k : ℕ) (word rest : List ℕ) → Solid word → Ends rest → shownUpTo k (word ++ rest) ≡ take k (map shownByte word)
+shown-solid : (k : ℕ) (word rest : List ℕ) → Solid word → Ends rest → shownUpTo k (word ++ rest) ≡ take k (map shownByte word)
 unfolding shownUpTo
 shown-solid zero word rest solid ends = refl
 shown-solid (suc k) [] [] solid ends = refl
@@ -251,7 +251,7 @@ pub record Names (line word : List ℕ) (node : ℕ) : Type 0 where
 -- it is the word or number in which the fault fell, and its place is the one at which that stood
 -- `front` is the line before it, and ends in a gap at this place
 module _ (front rest : List ℕ) (node digits : ℕ) (bytes : List ℕ) (f : Fault)
-    (there : scanAll blank front ≡ at Mode.Gap 0 node digits bytes) (ends : Ends rest) where
+    (reached : scanAll blank front ≡ at Mode.Gap 0 node digits bytes) (ends : Ends rest) where
   pub fault-in-word :
       (word : List ℕ) → eqb node rawNode ≡ false → Solid word → endOf (scanAll (at Mode.Gap 0 node digits bytes) word) .mode ≡ Mode.Wrong f
       → Names (front ++ (word ++ rest)) word node
@@ -263,13 +263,13 @@ module _ (front rest : List ℕ) (node digits : ℕ) (bytes : List ℕ) (f : Fau
       let last : Held node (scanAll (scanNext gap b) word) = all-held word node (scanNext gap b) (solid .2) first in
       let line = b ∷ (word ++ rest) in
       let here : faultFrom blank (front ++ line) (front ++ line) ≡ line =
-      fault-behind front line (ap (λ (s : Scan). s .mode) there)
-      ∙ ap (λ (s : Scan). faultFrom s line line) there
+      fault-behind front line (ap (λ (s : Scan). s .mode) reached)
+      ∙ ap (λ (s : Scan). faultFrom s line line) reached
       ∙ ap (λ (l : List ℕ). faultFrom (scanNext gap b) l (word ++ rest)) (held-stays (scanNext gap b .mode) (scanNext gap b .node) node line (word ++ rest) first)
       ∙ held-from word rest line node (scanNext gap b) (solid .2) first
       ∙ ended-from (scanAll (scanNext gap b) word) rest line f e ends in
       let place : endOf (scanAll blank (front ++ line)) .node ≡ node =
-      ap (λ (s : Scan). endOf s .node) (scan-append blank front line ∙ ap (λ (s : Scan). scanAll s line) there ∙ scan-append (scanNext gap b) word rest)
+      ap (λ (s : Scan). endOf s .node) (scan-append blank front line ∙ ap (λ (s : Scan). scanAll s line) reached ∙ scan-append (scanNext gap b) word rest)
       ∙ ended-node (scanAll (scanNext gap b) word) rest f e ends
       ∙ wrong-held node (scanAll (scanNext gap b) word) f last e in
       record {
@@ -287,14 +287,59 @@ module _ (front rest : List ℕ) (node digits : ℕ) (bytes : List ℕ) (f : Fau
       let gap = at Mode.Gap 0 node digits bytes in
       let line = b ∷ (more ++ rest) in
       let here : faultFrom blank (front ++ line) (front ++ line) ≡ line =
-      fault-behind front line (ap (λ (s : Scan). s .mode) there)
-      ∙ ap (λ (s : Scan). faultFrom s line line) there
+      fault-behind front line (ap (λ (s : Scan). s .mode) reached)
+      ∙ ap (λ (s : Scan). faultFrom s line line) reached
       ∙ ap (λ (s : Scan). faultFrom s (fromBy (s .mode) line (more ++ rest)) (more ++ rest)) e
       ∙ wrong-from (more ++ rest) line (wrong gap f) f refl in
       let place : endOf (scanAll blank (front ++ line)) .node ≡ node =
-      ap (λ (s : Scan). endOf s .node) (scan-append blank front line ∙ ap (λ (s : Scan). scanAll s line) there ∙ ap (λ (s : Scan). scanAll s (more ++ rest)) e ∙ wrong-stays (more ++ rest) (wrong gap f) f refl) in
+      ap (λ (s : Scan). endOf s .node) (scan-append blank front line ∙ ap (λ (s : Scan). scanAll s line) reached ∙ ap (λ (s : Scan). scanAll s (more ++ rest)) e ∙ wrong-stays (more ++ rest) (wrong gap f) f refl) in
       record {
         there = rw (here, solid .0, solid .1);
         shown = ap (λ (l : List ℕ). shownUpTo 20 l) here ∙ shown-solid 20 (b ∷ more) rest solid ends;
         place = place;
       }
+
+-- ---- what the line that names a fault says of it
+
+abbrev pub saidOf : ℕ → List ℕ → ℕ → List ℕ
+saidOf number name node =
+    textBytes "line " ++ decimalOf number ++ textBytes ": " ++ (name ++ (textBytes ", " ++ expectedAt node ++ textBytes " expected")) ++ (10 ∷ [])
+
+-- the word's first twenty bytes, between two marks
+abbrev pub marksOf : List ℕ → List ℕ
+marksOf word = textBytes "'" ++ take 20 (map shownByte word) ++ textBytes "'"
+
+module _ (number : ℕ) (line : List ℕ) where
+  pub unknown-said :
+      (word : List ℕ) (node : ℕ) → Names line word node
+      → faultLine number Fault.UnknownWord line ≡ saidOf number (textBytes "unknown word " ++ marksOf word) node
+  unfolding faultLine
+  unknown-said word node n =
+      ap (λ (shown : List ℕ). saidOf number (textBytes "unknown word " ++ (textBytes "'" ++ shown ++ textBytes "'")) (placeIn line)) (n .shown)
+      ∙ ap (saidOf number (textBytes "unknown word " ++ marksOf word)) (n .place)
+
+  pub missing-said :
+      (word : List ℕ) (node : ℕ) → Names line word node
+      → faultLine number Fault.MissingField line ≡ saidOf number (textBytes "missing field" ++ (textBytes " at " ++ marksOf word)) node
+  unfolding faultLine
+  missing-said word node n = rw (n .there, n .shown, n .place)
+
+  pub end-said :
+      faultIn line ≡ []
+      → faultLine number Fault.MissingField line ≡ saidOf number (textBytes "missing field") (endOf (scanAll blank line) .node)
+  unfolding faultLine
+  end-said e = rw e
+
+-- letters, small and capital, and digits are shown as they are, and no other byte, at each end of their ranges
+pub shown-bytes :
+    map shownByte (0 ∷ 47 ∷ 48 ∷ 57 ∷ 58 ∷ 64 ∷ 65 ∷ 90 ∷ 91 ∷ 96 ∷ 97 ∷ 122 ∷ 123 ∷ 127 ∷ 128 ∷ 255 ∷ [])
+    ≡ textBytes "??09??AZ??az????"
+shown-bytes = refl
+
+-- the other faults say their name alone
+pub others-said :
+    (number : ℕ) (line : List ℕ)
+    → map (λ (f : Fault). faultLine number f line) (Fault.TooLarge ∷ Fault.LineTooLong ∷ Fault.TooManyLines ∷ [])
+    ≡ map (λ (name : String). textBytes "line " ++ decimalOf number ++ textBytes ": " ++ textBytes name ++ (10 ∷ [])) ("number too large" ∷ "line too long" ∷ "too many lines" ∷ [])
+unfolding faultLine
+others-said number line = refl

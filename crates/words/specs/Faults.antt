@@ -123,7 +123,7 @@ placeIn line = endOf (scanAll blank line) .node
 
 -- ---- "the first bad line is named by its number and what is wrong"
 
--- what is wrong, and in which line
+-- what is wrong with this line
 abbrev pub faultText : Fault → List ℕ → List ℕ
 faultText Fault.UnknownWord line = textBytes "unknown word " ++ quoted (faultIn line) ++ expectedText (placeIn line)
 faultText Fault.MissingField line = textBytes "missing field" ++ stoodText (faultIn line) ++ expectedText (placeIn line)

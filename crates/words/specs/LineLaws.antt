@@ -10,7 +10,7 @@ use borrow.Author.Tests.{eqb-true}
 use lib.Dec.{ltb, eqb}
 use lib.ListN.{length, length-append}
 use Rattle.rules.specs.Loops.{oneIf}
-use Rattle.rules.specs.LoopsLaws.{either}
+use Rattle.rules.specs.LoopsLaws.{either, cond-keeps}
 use Rattle.words.specs.Types.{Fault, Verdict, Stop, Reader}
 use Rattle.words.specs.Scan.{blank, scanNext, endOf, verdictOf, lineMost, recordMost, linesMost, reading, stopped, judged, lineEnded, byteRead, nextWhile, readerNext, Read, unread, readNext, readAll}
 use Rattle.words.specs.Faults.{linesPast, upToNewline, lineBehind}
@@ -28,8 +28,7 @@ abbrev Lined : Reader → Reader → Bool → Type 0
 Lined now before newline = LinedBy (now .stop) now before newline
 
 cond-lined : (t : Bool) (x y r : Reader) (newline : Bool) → Lined x r newline → Lined y r newline → Lined (cond t x y) r newline
-cond-lined true x y r newline p q = p
-cond-lined false x y r newline p q = q
+cond-lined t x y r newline = cond-keeps (λ (z : Reader). Lined z r newline) t x y
 
 judged-lined : (r : Reader) (v : Verdict) → Lined (judged r v) r true
 judged-lined r Verdict.Blank = (refl, refl)
@@ -65,7 +64,7 @@ stopped-stays t (b ∷ bs) f e =
 -- ---- a line in a text
 
 -- up to its newline
-pub line-whole : (line rest : List ℕ) → OneLine line → upToNewline (line ++ (10 ∷ rest)) ≡ line
+line-whole : (line rest : List ℕ) → OneLine line → upToNewline (line ++ (10 ∷ rest)) ≡ line
 unfolding upToNewline
 line-whole [] rest one = refl
 line-whole (b ∷ line) rest one = rw (one .0, line-whole line rest (one .1))
@@ -76,7 +75,7 @@ unfolding linesPast
 past-line k [] rest one = refl
 past-line k (b ∷ line) rest one = rw (one .0) (past-line k line rest (one .1))
 
-past-none : (k : ℕ) → linesPast k [] ≡ []
+pub past-none : (k : ℕ) → linesPast k [] ≡ []
 unfolding linesPast
 past-none zero = refl
 past-none (suc k) = refl

@@ -1,10 +1,10 @@
--- The sheet that is made of records is taken and holds them, and the records of any sheet come back from their words. Assumes nothing.
+-- The sheet that is made of records is taken and holds them, the records of any sheet come back from their words, and a mark before a text is blank. Assumes nothing.
 use Prim.Native.Nat.{ℕ, zero, suc, _+_, _*_, _-_, _/_, _%_, _≤_, _<_}
 use native.Mathlib.Omega.{arith}
 use native.Mathlib.Nat.{add-zero}
 use mathlib.Core.Path.{_≡_, refl, sym, ap, _∙_}
 use mathlib.Core.List.{List, [], _∷_, _++_, append-nil, append-assoc}
-use borrow.Author.Tests.{le-ltb}
+use borrow.Author.Tests.{le-ltb, eqb-true}
 use lib.ListN.{length, getD, take, drop, length-append, length-take, length-drop}
 use lib.Seq.{take-add, take-length, getD-append-add, getD-take, getD-drop, take-append-seam}
 use Rattle.rules.specs.declared.steps.SheetAnswer.{SheetAnswer}
@@ -15,8 +15,12 @@ use Rattle.rules.specs.SheetLaws.{Whole, taken-whole, taken-length, records-six
 use Rattle.words.specs.Scan.{blank, Read, textRead}
 use Rattle.words.specs.Say.{recordText, linesText}
 use Rattle.words.specs.Tell.{plainUpTo, plainOf}
-use Rattle.words.specs.Sheets.{joined, sheetOf}
+use Rattle.words.specs.Sheets.{joined, sheetOf, isMarked, unmarked}
+use lib.Dec.{eqb}
 use Rattle.words.specs.TextLaws.{Records, going, text-read}
+use mathlib.Core.Bool.{true, false, _&&_, true≢false}
+use Rattle.rules.specs.LoopsLaws.{and-left, and-right, either}
+use mathlib.Core.Logic.{⊎-elim}
 
 -- ---- a part in records
 
@@ -165,3 +169,27 @@ pub plain-survives :
 unfolding plainOf
 plain-survives b byte e =
     rw (e, plain-lines (sheetRecords b) (length (sheetRecords b) / 16)) (sheet-survives b byte)
+
+-- ---- the mark before a text
+
+-- one mark is blank; a second one is what it was
+pub mark-blank : (text : List ℕ) → unmarked (239 ∷ 187 ∷ 191 ∷ text) ≡ text
+unfolding unmarked
+mark-blank text = refl
+
+marked-starts : (text : List ℕ) → isMarked text ≡ true → text ≡ 239 ∷ 187 ∷ 191 ∷ drop 3 text
+marked-starts [] e = absurd (true≢false (sym e))
+marked-starts (a ∷ []) e = absurd (true≢false (sym (and-right (eqb a 239 && false) false e)))
+marked-starts (a ∷ b ∷ []) e = absurd (true≢false (sym (and-right (eqb a 239 && eqb b 187) false e)))
+marked-starts (a ∷ b ∷ c ∷ text) e =
+    let two = and-left (eqb a 239 && eqb b 187) (eqb c 191) e in
+    rw (eqb-true a 239 (and-left (eqb a 239) (eqb b 187) two), eqb-true b 187 (and-right (eqb a 239) (eqb b 187) two), eqb-true c 191 (and-right (eqb a 239 && eqb b 187) (eqb c 191) e))
+
+-- a text that starts otherwise stays as it is
+pub other-unmarked : (text : List ℕ) → ((rest : List ℕ) → text ≡ 239 ∷ 187 ∷ 191 ∷ rest → ⊥) → unmarked text ≡ text
+unfolding unmarked
+other-unmarked text other =
+    ⊎-elim
+    (λ (h : isMarked text ≡ true). absurd (other (drop 3 text) (marked-starts text h)))
+    (λ (h : isMarked text ≡ false). rw h)
+    (either (isMarked text))

@@ -23,62 +23,67 @@ use Rattle.words.specs.RecordLaws.{record-says}
 
 -- ---- the writer's bytes are no newlines
 
--- the bytes of one line
+abbrev pub Plain : List ℕ → Type 0
+Plain [] = Unit {0}
+Plain (b ∷ bs) = (10 < b) × Plain bs
+
+plain-append : (xs ys : List ℕ) → Plain xs → Plain ys → Plain (xs ++ ys)
+plain-append [] ys p q = q
+plain-append (x ∷ xs) ys p q = (p .0, plain-append xs ys (p .1) q)
+
+plain-cond : (t : Bool) (xs ys : List ℕ) → Plain xs → Plain ys → Plain (cond t xs ys)
+plain-cond = cond-keeps Plain
+
+plain-digits : (k n : ℕ) → Plain (digitsOf k n)
+unfolding digitsOf
+plain-digits zero n = tt
+plain-digits (suc k) n =
+    plain-cond (ltb n 10) ((48 + n) ∷ []) (digitsOf k (n / 10) ++ ((48 + n % 10) ∷ [])) (omega arith, tt)
+    (plain-append (digitsOf k (n / 10)) ((48 + n % 10) ∷ []) (plain-digits k (n / 10)) (omega arith, tt))
+
+plain-letters : (k w : ℕ) → Plain (lettersOf k w)
+unfolding lettersOf
+plain-letters zero w = tt
+plain-letters (suc k) w =
+    plain-cond (ltb w 32) ((96 + w) ∷ []) (lettersOf k (w / 32) ++ ((96 + w % 32) ∷ [])) (omega arith, tt)
+    (plain-append (lettersOf k (w / 32)) ((96 + w % 32) ∷ []) (plain-letters k (w / 32)) (omega arith, tt))
+
+plain-token : (t : Token) → Plain (tokenText t)
+plain-token (Token.Word w) = plain-letters 9 w
+plain-token (Token.Number n) = plain-digits 10 n
+
+plain-rest : (ts : List Token) → Plain (restText ts)
+plain-rest [] = tt
+plain-rest (t ∷ ts) = (omega arith, plain-append (tokenText t) (restText ts) (plain-token t) (plain-rest ts))
+
+hex-past : (t : Bool) (d : ℕ) → 10 < cond t (48 + d) (87 + d)
+hex-past true d = omega arith
+hex-past false d = omega arith
+
+plain-hex : (xs : List ℕ) → Plain (hexText xs)
+unfolding hexText
+plain-hex [] = tt
+plain-hex (x ∷ xs) =
+    (hex-past (ltb (x / 16) 10) (x / 16), (hex-past (ltb (x % 16) 10) (x % 16), plain-hex xs))
+
+plain-by : (r : Reading) (b : List ℕ) → Plain (recordBy r b)
+unfolding stepText rawText
+plain-by Reading.Nothing b = plain-append (wordText rawWord) (32 ∷ hexText b) (plain-letters 9 rawWord) (omega arith, plain-hex b)
+plain-by (Reading.Known s) b =
+    plain-append (wordText (firstWord s)) (restText (moreTokens s)) (plain-letters 9 (firstWord s)) (plain-rest (moreTokens s))
+
+pub plain-record : (b : List ℕ) → Plain (recordText b)
+unfolding recordText
+plain-record b = plain-by (stepOfRecord b) b
+
+-- so they are the bytes of one line
 abbrev pub OneLine : List ℕ → Type 0
 OneLine [] = Unit {0}
 OneLine (b ∷ bs) = (eqb b 10 ≡ false) × OneLine bs
 
-past : (b : ℕ) → 10 < b → eqb b 10 ≡ false
-past b h = ne-eqb b 10 (λ e. omega arith)
-
-one-append : (xs ys : List ℕ) → OneLine xs → OneLine ys → OneLine (xs ++ ys)
-one-append [] ys p q = q
-one-append (x ∷ xs) ys p q = (p .0, one-append xs ys (p .1) q)
-
-one-cond : (t : Bool) (xs ys : List ℕ) → OneLine xs → OneLine ys → OneLine (cond t xs ys)
-one-cond = cond-keeps OneLine
-
-one-digits : (k n : ℕ) → OneLine (digitsOf k n)
-unfolding digitsOf
-one-digits zero n = tt
-one-digits (suc k) n =
-    one-cond (ltb n 10) ((48 + n) ∷ []) (digitsOf k (n / 10) ++ ((48 + n % 10) ∷ [])) (past (48 + n) (omega arith), tt)
-    (one-append (digitsOf k (n / 10)) ((48 + n % 10) ∷ []) (one-digits k (n / 10)) (past (48 + n % 10) (omega arith), tt))
-
-one-letters : (k w : ℕ) → OneLine (lettersOf k w)
-unfolding lettersOf
-one-letters zero w = tt
-one-letters (suc k) w =
-    one-cond (ltb w 32) ((96 + w) ∷ []) (lettersOf k (w / 32) ++ ((96 + w % 32) ∷ [])) (past (96 + w) (omega arith), tt)
-    (one-append (lettersOf k (w / 32)) ((96 + w % 32) ∷ []) (one-letters k (w / 32)) (past (96 + w % 32) (omega arith), tt))
-
-one-token : (t : Token) → OneLine (tokenText t)
-one-token (Token.Word w) = one-letters 9 w
-one-token (Token.Number n) = one-digits 10 n
-
-one-rest : (ts : List Token) → OneLine (restText ts)
-one-rest [] = tt
-one-rest (t ∷ ts) = (refl, one-append (tokenText t) (restText ts) (one-token t) (one-rest ts))
-
-hex-past : (t : Bool) (d : ℕ) → eqb (cond t (48 + d) (87 + d)) 10 ≡ false
-hex-past true d = past (48 + d) (omega arith)
-hex-past false d = past (87 + d) (omega arith)
-
-one-hex : (xs : List ℕ) → OneLine (hexText xs)
-unfolding hexText
-one-hex [] = tt
-one-hex (x ∷ xs) =
-    (hex-past (ltb (x / 16) 10) (x / 16), (hex-past (ltb (x % 16) 10) (x % 16), one-hex xs))
-
-one-by : (r : Reading) (b : List ℕ) → OneLine (recordBy r b)
-unfolding stepText rawText
-one-by Reading.Nothing b = one-append (wordText rawWord) (32 ∷ hexText b) (one-letters 9 rawWord) (refl, one-hex b)
-one-by (Reading.Known s) b =
-    one-append (wordText (firstWord s)) (restText (moreTokens s)) (one-letters 9 (firstWord s)) (one-rest (moreTokens s))
-
-pub one-record : (b : List ℕ) → OneLine (recordText b)
-unfolding recordText
-one-record b = one-by (stepOfRecord b) b
+plain-one : (xs : List ℕ) → Plain xs → OneLine xs
+plain-one [] p = tt
+plain-one (x ∷ xs) p = (let past : 10 < x = p .0 in ne-eqb x 10 (λ e. omega arith), plain-one xs (p .1))
 
 -- ---- how long they are
 
@@ -221,7 +226,7 @@ lines-read (b ∷ bs) lines count records w room few =
     let l : lines + 1 + length bs ≡ lines + suc (length bs) = omega arith in
     let c : count + 1 + length bs ≡ count + suc (length bs) = omega arith in
     let short : length (recordText b) ≤ 108 = record-length b (w .0 .sixteen) in
-    line-read (recordText b) b (linesText bs) lines count records (record-says b (w .0)) (one-record b) (omega arith) (omega arith) (omega arith)
+    line-read (recordText b) b (linesText bs) lines count records (record-says b (w .0)) (plain-one (recordText b) (plain-record b)) (omega arith) (omega arith) (omega arith)
     ∙ lines-read bs (lines + 1) (count + 1) (records ++ b) (w .1) (omega arith) (omega arith)
     ∙ ap (λ (k : ℕ). going k (count + 1 + length bs) 0 blank ((records ++ b) ++ joined bs)) l
     ∙ ap (λ (k : ℕ). going (lines + suc (length bs)) k 0 blank ((records ++ b) ++ joined bs)) c

@@ -4,7 +4,7 @@ use native.Mathlib.Omega.{arith}
 use native.Mathlib.Nat.{add-zero}
 use mathlib.Core.Path.{_≡_, refl, sym, ap, _∙_}
 use mathlib.Core.Logic.{⊎-elim}
-use mathlib.Core.Bool.{Bool, true, false, _&&_, true≢false}
+use mathlib.Core.Bool.{Bool, true, false, _&&_}
 use mathlib.Core.List.{List, [], _∷_, _++_, append-nil, append-assoc}
 use borrow.Author.Tests.{ltb-true, le-ltb, eqb-true}
 use lib.Dec.{ltb, eqb}
@@ -20,33 +20,11 @@ use Rattle.words.specs.Types.{Reading}
 use Rattle.words.specs.Grammar.{rawWord}
 use Rattle.words.specs.Say.{Token, lettersOf, wordText, tokenText, restText, firstWord, moreTokens, stepText, hexText, rawText, recordBy, recordText, linesText}
 use Rattle.words.specs.Tell.{plainOf}
-use Rattle.words.specs.Sheets.{trailerOf, sheetOf, answerText, textMost, isMarked, unmarked, sheetText}
+use Rattle.words.specs.Sheets.{trailerOf, sheetOf, answerText, textMost, unmarked, sheetText}
 use Rattle.words.specs.TextLaws.{lines-length}
-use Rattle.words.specs.SheetsLaws.{records-count, records-are, part-read, sheet-bytes, sheet-most, plain-lines}
+use Rattle.words.specs.SheetsLaws.{records-count, records-are, part-read, sheet-bytes, sheet-most, plain-lines, other-unmarked}
 
--- ---- the mark before a text
-
--- one mark is blank; a second one is what it was
-pub mark-blank : (text : List ℕ) → unmarked (239 ∷ 187 ∷ 191 ∷ text) ≡ text
-unfolding unmarked
-mark-blank text = refl
-
-marked-starts : (text : List ℕ) → isMarked text ≡ true → text ≡ 239 ∷ 187 ∷ 191 ∷ drop 3 text
-marked-starts [] e = absurd (true≢false (sym e))
-marked-starts (a ∷ []) e = absurd (true≢false (sym (and-right (eqb a 239 && false) false e)))
-marked-starts (a ∷ b ∷ []) e = absurd (true≢false (sym (and-right (eqb a 239 && eqb b 187) false e)))
-marked-starts (a ∷ b ∷ c ∷ text) e =
-    let two = and-left (eqb a 239 && eqb b 187) (eqb c 191) e in
-    rw (eqb-true a 239 (and-left (eqb a 239) (eqb b 187) two), eqb-true b 187 (and-right (eqb a 239) (eqb b 187) two), eqb-true c 191 (and-right (eqb a 239 && eqb b 187) (eqb c 191) e))
-
--- a text that starts otherwise stays as it is
-pub other-unmarked : (text : List ℕ) → ((rest : List ℕ) → text ≡ 239 ∷ 187 ∷ 191 ∷ rest → ⊥) → unmarked text ≡ text
-unfolding unmarked
-other-unmarked text other =
-    ⊎-elim
-    (λ (h : isMarked text ≡ true). absurd (other (drop 3 text) (marked-starts text h)))
-    (λ (h : isMarked text ≡ false). rw h)
-    (either (isMarked text))
+-- ---- the words of a sheet start with no mark
 
 -- words start with a letter
 letters-first : (k w x : ℕ) (rest : List ℕ) → x < 128 → getD (lettersOf k w ++ (x ∷ rest)) 0 0 < 128

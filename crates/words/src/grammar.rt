@@ -3,6 +3,9 @@
 // How many edges there are; as a row it says that there is none.
 pub const EDGE_COUNT: usize = 31;
 
+// The place of `raw`.
+pub const RAW_NODE: u8 = 30;
+
 // At place `from` the word leads to place `to`, and puts `value` into byte `field` of the record; a field of 16 is none.
 pub struct Edge {
     pub from: u8,

@@ -6,7 +6,7 @@ use Rattle.faults.proofs.named.put_unknown.Tie as tie
 
 returns : tie.Need-returns
 returns c =
-    (rw (← c .before .before .before .before .before .before .before .before .before .before .before .before .before .spot-in .ensures .0, ← c .before .before .before .before .before .before .before .before .before .before .before .before .before .spot-in .ensures .2) (put-both (omega arith) (put-both (omega arith) (c .before .before .before .before .before .before .before .before .before .before .put-text .ensures) (c .before .before .before .before .before .before .put-quoted .ensures .0)) (c .before .before .put-takes .ensures .0)), omega (arith, c .before .before .before .before .before .before .before .before .before .before .put-text .ensures .ends))
+    (rw (← c .before .before .before .before .before .before .before .before .before .before .before .before .before .spot-in .ensures .0, ← c .before .before .before .before .before .before .before .before .before .before .before .before .before .spot-in .ensures .2) (put-both (omega arith) (put-both (omega arith) (c .before .before .before .before .before .before .before .before .before .before .put-text .ensures) (c .before .before .before .before .before .before .put-quoted .ensures .0)) (c .before .before .put-expected-text .ensures .0)), omega (arith, c .before .before .before .before .before .before .before .before .before .before .put-text .ensures .ends))
 
 pub put-unknown-spec : {M : Type 1} → statement M
 put-unknown-spec =

@@ -8,8 +8,8 @@ use Rattle.lines.specs.Text.{put-both}
 use native.Mathlib.Omega.{arith}
 use borrow.Author.Tests.{ne-eqb}
 use borrow.Author.Needs.{needs}
-use Rattle.faults.proofs.expected.put_expected.Statement.{statement}
-use Rattle.faults.proofs.expected.put_expected.Tie as tie
+use Rattle.faults.proofs.expected.put_expected_at.Statement.{statement}
+use Rattle.faults.proofs.expected.put_expected_at.Tie as tie
 
 returns : tie.Need-returns
 unfolding expectedAt
@@ -34,8 +34,8 @@ returns-4 c =
       omega arith,
     )
 
-pub put-expected-spec : {M : Type 1} → statement M
-put-expected-spec =
+pub put-expected-at-spec : {M : Type 1} → statement M
+put-expected-at-spec =
     tie.close
     (tie.spec
     (λ c. search needs) (λ c κs. search needs) (λ c. search needs)
