@@ -26,6 +26,7 @@ pub mod RangesLaws
 pub mod RangesFits
 pub mod RangesKept
 pub mod Runs
+pub mod Views
 pub mod Sheet
 pub mod SheetLaws
 pub mod Listing

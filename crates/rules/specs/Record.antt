@@ -130,6 +130,10 @@ flatOf (Step.Crash site) = flat 14 site 0 0 0 0 0
 flatOf (Step.Recover site) = flat 15 site 0 0 0 0 0
 flatOf (Step.Retire h) = flat 16 0 0 0 h 0 0
 
+-- whether a step has this code
+abbrev pub isStep : ℕ → Step → Bool
+isStep code s = eqb (flatOf s .code) code
+
 -- ---- bytes to step, step to bytes
 
 -- 1: "code unknown, or an unnamed field isn't 0". "A record refused by 1 stands for no step."

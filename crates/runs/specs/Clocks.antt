@@ -26,6 +26,7 @@ use Rattle.rules.specs.RangesLaws.{placed-places, placed-slots}
 use Rattle.rules.specs.RangesKept.{turn-count-most}
 use Rattle.rules.specs.RefusedLaws.{decided-refused, turns-keep}
 use Rattle.rules.specs.Runs.{runOf, actsAtSite}
+use Rattle.rules.specs.Views.{settled-accepted, Clock, deedOf}
 use Rattle.runs.specs.Types.{Body, Tables, Step, Places, Seen, Outcome}
 use Rattle.runs.specs.Put.{same-or-other}
 use Rattle.runs.specs.Sizes.{step-holds, run-holds, sized-head, sized-turn}
@@ -36,18 +37,11 @@ use Rattle.runs.specs.Sizes.{step-holds, run-holds, sized-head, sized-tu
 abbrev Grown : Seen → Seen → Type 0
 Grown seen left = seen .site .clock + 1 ≤ left .site .clock
 
--- an accepted decision leaves what was decided where no check holds
-settled-adds :
-    (cs : List Check) (v : ℕ) (seen left : Seen) → (Fine cs → Grown seen left)
-    → isAccepted (firstOf cs v) ≡ true
-    → Grown seen (settleOf (record { answer = firstOf cs v; left = left }) seen .left)
-settled-adds cs v seen left f e = rw e (f (accepted-fine cs v e))
-
 -- a tick's n is not 0
 tick-adds : (site n : ℕ) (seen : Seen) → isAccepted (tickOf site n seen .answer) ≡ true → Grown seen (tickOf site n seen .left)
 unfolding tickOf
 tick-adds site n seen =
-    settled-adds _ _ seen _ λ f.
+    settled-accepted (Grown seen) _ _ seen _ λ f.
     let d : n ≡ 0 → ⊥ = eqb-false n 0 (or-right (badSite site) _ (or-left (badSite site || eqb n 0) (ltb tickMost n) (f .fields))) in
     omega (arith, d)
 
@@ -58,63 +52,40 @@ deliver-adds :
     → Grown seen (deliverBodyOf body m seen .left)
 unfolding deliverBodyOf emptyOf deliverCallOf deliverPhaseOneOf deliverPhaseTwoOf deliverAnswerOf
 deliver-adds Body.Empty m seen b e =
-    settled-adds _ _ seen seen (λ f. absurd (true≢false (rw b at (f .found)))) e
-deliver-adds (Body.Call c) m seen b e = settled-adds _ _ seen _ (λ f. omega arith) e
-deliver-adds (Body.PhaseOne n a) m seen b e = settled-adds _ _ seen _ (λ f. omega arith) e
-deliver-adds (Body.PhaseTwo n d) m seen b e = settled-adds _ _ seen _ (λ f. omega arith) e
-deliver-adds (Body.Answer n r q) m seen b e = settled-adds _ _ seen _ (λ f. omega arith) e
+    settled-accepted (Grown seen) _ _ seen seen (λ f. absurd (true≢false (rw b at (f .found)))) e
+deliver-adds (Body.Call c) m seen b e = settled-accepted (Grown seen) _ _ seen _ (λ f. omega arith) e
+deliver-adds (Body.PhaseOne n a) m seen b e = settled-accepted (Grown seen) _ _ seen _ (λ f. omega arith) e
+deliver-adds (Body.PhaseTwo n d) m seen b e = settled-accepted (Grown seen) _ _ seen _ (λ f. omega arith) e
+deliver-adds (Body.Answer n r q) m seen b e = settled-accepted (Grown seen) _ _ seen _ (λ f. omega arith) e
+
+-- an accepted step that acts at its site moves its clock
+acted-adds :
+    (step : Step) (place : ℕ) (rest : Bool) (seen : Seen) → Clock step → actsAtSite step ≡ true
+    → isAccepted (decideOf step place rest seen .answer) ≡ true
+    → Grown seen (decideOf step place rest seen .left)
+unfolding decideOf
+acted-adds _ place rest seen (Clock.Ticks site n) a e = tick-adds site n seen e
+acted-adds _ place rest seen (Clock.Delivers m) a e = deliver-adds (seen .message .body) m seen refl e
+acted-adds _ place rest seen (Clock.Moves step b moves) a e = omega (arith, moves place rest seen e)
+acted-adds _ place rest seen (Clock.Rests step b stays) a e = absurd (true≢false (sym a ∙ b))
 
 decided-adds :
     (step : Step) (place : ℕ) (rest : Bool) (seen : Seen) → actsAtSite step ≡ true
     → isAccepted (decideOf step place rest seen .answer) ≡ true
     → Grown seen (decideOf step place rest seen .left)
-unfolding decideOf sweepOf crashOf recoverOf beginOf abortOf refreshOf terminateOf prepareOf openOf askOf closeOf tellOf invokeOf
-decided-adds (Step.Tick site n) place rest seen a e = tick-adds site n seen e
-decided-adds (Step.Begin home slot q r) place rest seen a e = settled-adds _ _ seen _ (λ f. omega arith) e
-decided-adds (Step.Invoke h site write object value) place rest seen a e = settled-adds _ _ seen _ (λ f. omega arith) e
-decided-adds (Step.Refresh h q r) place rest seen a e = settled-adds _ _ seen _ (λ f. omega arith) e
-decided-adds (Step.Terminate h) place rest seen a e = settled-adds _ _ seen _ (λ f. omega arith) e
-decided-adds (Step.Prepare h) place rest seen a e = settled-adds _ _ seen _ (λ f. omega arith) e
-decided-adds (Step.Ask h site) place rest seen a e = settled-adds _ _ seen _ (λ f. omega arith) e
-decided-adds (Step.Close h) place rest seen a e = settled-adds _ _ seen _ (λ f. omega arith) e
-decided-adds (Step.Tell h site) place rest seen a e = settled-adds _ _ seen _ (λ f. omega arith) e
-decided-adds (Step.Abort h) place rest seen a e = settled-adds _ _ seen _ (λ f. omega arith) e
-decided-adds (Step.Deliver m) place rest seen a e = deliver-adds (seen .message .body) m seen refl e
-decided-adds (Step.Drop m) place rest seen a e = absurd (false≢true a)
-decided-adds (Step.Sweep site) place rest seen a e = settled-adds _ _ seen _ (λ f. omega arith) e
-decided-adds (Step.Crash site) place rest seen a e = settled-adds _ _ seen _ (λ f. omega arith) e
-decided-adds (Step.Recover site) place rest seen a e = settled-adds _ _ seen _ (λ f. omega arith) e
-decided-adds (Step.Retire h) place rest seen a e = absurd (false≢true a)
+decided-adds step place rest seen = acted-adds step place rest seen (deedOf step .clock)
 
 -- drop and retire leave the site
-idle-site : (cs : List Check) (v : ℕ) (seen left : Seen) → left .site ≡ seen .site
-    → settleOf (record { answer = firstOf cs v; left = left }) seen .left .site ≡ seen .site
-idle-site cs v seen left q = both (isAccepted (firstOf cs v))
-  where
-    both : (b : Bool) → cond b left seen .site ≡ seen .site
-    both true = q
-    both false = refl
+idle-site : (step : Step) (place : ℕ) (rest : Bool) (seen : Seen) → Clock step → actsAtSite step ≡ false → decideOf step place rest seen .left .site ≡ seen .site
+idle-site _ place rest seen (Clock.Ticks site n) a = absurd (true≢false a)
+idle-site _ place rest seen (Clock.Delivers m) a = absurd (true≢false a)
+idle-site _ place rest seen (Clock.Moves step b moves) a = absurd (true≢false (sym b ∙ a))
+idle-site _ place rest seen (Clock.Rests step b stays) a = stays place rest seen
 
 idle-decided :
     (step : Step) (place : ℕ) (rest : Bool) (seen : Seen) → actsAtSite step ≡ false
     → decideOf step place rest seen .left .site ≡ seen .site
-unfolding decideOf retireOf dropOf
-idle-decided (Step.Tick site n) place rest seen a = absurd (true≢false a)
-idle-decided (Step.Begin home slot q r) place rest seen a = absurd (true≢false a)
-idle-decided (Step.Invoke h site write object value) place rest seen a = absurd (true≢false a)
-idle-decided (Step.Refresh h q r) place rest seen a = absurd (true≢false a)
-idle-decided (Step.Terminate h) place rest seen a = absurd (true≢false a)
-idle-decided (Step.Prepare h) place rest seen a = absurd (true≢false a)
-idle-decided (Step.Ask h site) place rest seen a = absurd (true≢false a)
-idle-decided (Step.Close h) place rest seen a = absurd (true≢false a)
-idle-decided (Step.Tell h site) place rest seen a = absurd (true≢false a)
-idle-decided (Step.Abort h) place rest seen a = absurd (true≢false a)
-idle-decided (Step.Deliver m) place rest seen a = absurd (true≢false a)
-idle-decided (Step.Drop m) place rest seen a = idle-site _ _ seen _ refl
-idle-decided (Step.Sweep site) place rest seen a = absurd (true≢false a)
-idle-decided (Step.Crash site) place rest seen a = absurd (true≢false a)
-idle-decided (Step.Recover site) place rest seen a = absurd (true≢false a)
-idle-decided (Step.Retire h) place rest seen a = idle-site _ _ seen _ refl
+idle-decided step place rest seen = idle-site step place rest seen (deedOf step .clock)
 
 decided-not-back :
     (step : Step) (place : ℕ) (rest : Bool) (seen : Seen)

@@ -27,6 +27,7 @@ use Rattle.rules.specs.StoredLaws.{Sized, Placed, visit-after-stored}
 use Rattle.rules.specs.RangesLaws.{placed-places, placed-slots}
 use Rattle.rules.specs.RangesKept.{turn-count-most}
 use Rattle.rules.specs.Runs.{runOf}
+use Rattle.rules.specs.Views.{settled, Objects, deedOf}
 use Rattle.runs.specs.Types.{Visit, Call, Told, Body, Tables, Step, Places, Seen, Outcome}
 use Rattle.runs.specs.Put.{same-or-other}
 use Rattle.runs.specs.Steps.{run-on}
@@ -70,7 +71,7 @@ module _ (t : Tables) (at : Places) where
       (cs : List Check) (v : ℕ) (left : Seen) → Fast t at left
       → Fast t at (settleOf (record { answer = firstOf cs v; left = left }) (seenOf t at) .left)
   settled-fast cs v left f =
-      cond-keeps (Fast t at) (isAccepted (firstOf cs v)) left (seenOf t at) f (same-fast (seenOf t at) refl)
+      settled (Fast t at) cs v (seenOf t at) left (λ g. f) (same-fast (seenOf t at) refl)
 
   -- the visit goes, and lets go of what it held at its site; who else holds an object there keeps it
   let-go-fast :
@@ -155,26 +156,18 @@ module _ (t : Tables) (at : Places) where
   unfolding crashedSlot
   crashed-fast site n = same-fast (crashedSlot site n (seenOf t at)) refl
 
+seen-fast :
+    (t : Tables) (step : Step) (place : ℕ) (rest : Bool) → Objects step
+    → Fast t (placesOf t (lookOf step)) (decideOf step place rest (seenOf t (placesOf t (lookOf step))) .left)
+unfolding placesOf decideOf
+seen-fast t _ place rest (Objects.Closes h) = close-fast t _ h refl refl
+seen-fast t _ place rest (Objects.Delivers m) = delivered-fast t _ _ m refl refl
+seen-fast t _ place rest (Objects.Stay step c d stay) = same-fast t _ _ (stay place rest (seenOf t (placesOf t (lookOf step))))
+
 decided-fast :
     (t : Tables) (step : Step) (place : ℕ) (rest : Bool)
     → Fast t (placesOf t (lookOf step)) (decideOf step place rest (seenOf t (placesOf t (lookOf step))) .left)
-unfolding placesOf decideOf tickOf sweepOf crashOf recoverOf beginOf abortOf retireOf refreshOf terminateOf prepareOf openOf askOf tellOf invokeOf dropOf
-decided-fast t (Step.Tick site n) place rest = settled-fast t _ _ _ _ (same-fast t _ _ refl)
-decided-fast t (Step.Begin home slot q r) place rest = settled-fast t _ _ _ _ (same-fast t _ _ refl)
-decided-fast t (Step.Invoke h site write object value) place rest = settled-fast t _ _ _ _ (same-fast t _ _ refl)
-decided-fast t (Step.Refresh h q r) place rest = settled-fast t _ _ _ _ (same-fast t _ _ refl)
-decided-fast t (Step.Terminate h) place rest = settled-fast t _ _ _ _ (same-fast t _ _ refl)
-decided-fast t (Step.Prepare h) place rest = settled-fast t _ _ _ _ (same-fast t _ _ refl)
-decided-fast t (Step.Ask h site) place rest = settled-fast t _ _ _ _ (same-fast t _ _ refl)
-decided-fast t (Step.Close h) place rest = close-fast t _ h refl refl
-decided-fast t (Step.Tell h site) place rest = settled-fast t _ _ _ _ (same-fast t _ _ refl)
-decided-fast t (Step.Abort h) place rest = settled-fast t _ _ _ _ (same-fast t _ _ refl)
-decided-fast t (Step.Deliver m) place rest = delivered-fast t _ _ m refl refl
-decided-fast t (Step.Drop m) place rest = settled-fast t _ _ _ _ (same-fast t _ _ refl)
-decided-fast t (Step.Sweep site) place rest = settled-fast t _ _ _ _ (same-fast t _ _ refl)
-decided-fast t (Step.Crash site) place rest = settled-fast t _ _ _ _ (same-fast t _ _ refl)
-decided-fast t (Step.Recover site) place rest = settled-fast t _ _ _ _ (same-fast t _ _ refl)
-decided-fast t (Step.Retire h) place rest = settled-fast t _ _ _ _ (same-fast t _ _ refl)
+decided-fast t step place rest = seen-fast t step place rest (deedOf step .objects)
 
 -- ---- steps, for one object and the slot that held it
 

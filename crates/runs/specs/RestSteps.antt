@@ -23,6 +23,7 @@ use Rattle.rules.specs.Rounds.{refreshOf, terminateOf, prepareOf, openOf, askOf
 use Rattle.rules.specs.Calls.{mailClock, mailSlot, calledObject, called, invokeOf, emptyOf, deliverCallOf, deliverPhaseOneOf, deliverPhaseTwoOf, deliverAnswerOf, deliverBodyOf, dropOf}
 use Rattle.rules.specs.Machine.{lookOf, placesOf, seenOf, decideOf, stored, headOf, slotPlaces, sweepTurn, crashTurn, turnOf, turnsUpTo, turnCount, stepInRangeOf, stepOf}
 use Rattle.rules.specs.StoredLaws.{Sized, Placed}
+use Rattle.rules.specs.Views.{settled, Objects, deedOf}
 use Rattle.runs.specs.Types.{Kind, Call, Told, Body, Tables, Step, Outcome, Places, Seen}
 use Rattle.runs.specs.Put.{same-or-other}
 use Rattle.runs.specs.Banks.{seen-object, object-after-stored, object-after-stored-other, each-at}
@@ -45,13 +46,7 @@ settled-stand :
     (commit : Bool) (cs : List Check) (v : ℕ) (seen left : Seen) → AllStand commit (seen .objects) (left .objects)
     → AllStand commit (seen .objects) (settleOf (record { answer = firstOf cs v; left = left }) seen .left .objects)
 settled-stand commit cs v seen left h =
-    cond-keeps
-    (λ (x : Seen). AllStand commit (seen .objects) (x .objects))
-    (isAccepted (firstOf cs v))
-    left
-    seen
-    h
-    (same-stand commit (seen .objects) (seen .objects) refl)
+    settled (λ (x : Seen). AllStand commit (seen .objects) (x .objects)) cs v seen left (λ g. h) (same-stand commit (seen .objects) (seen .objects) refl)
 
 -- a step that leaves the objects
 idle-stand :
@@ -122,26 +117,18 @@ deliver-stand (Body.PhaseTwo n told) m seen =
     settled-stand (tellsPrepare told) _ _ seen _ (told-stand told (mailSlot seen) (seen .objects))
 deliver-stand (Body.Answer n r q) m seen = idle-stand _ _ seen _ refl
 
+seen-stand :
+    (step : Step) (place : ℕ) (rest : Bool) (seen : Seen) → Objects step
+    → AllStand (commits step seen) (seen .objects) (decideOf step place rest seen .left .objects)
+unfolding decideOf
+seen-stand _ place rest seen (Objects.Closes h) = close-stand h seen
+seen-stand _ place rest seen (Objects.Delivers m) = deliver-stand (seen .message .body) m seen
+seen-stand _ place rest seen (Objects.Stay step c d stay) = same-stand (commits step seen) (seen .objects) _ (stay place rest seen)
+
 decided-stand :
     (step : Step) (place : ℕ) (rest : Bool) (seen : Seen)
     → AllStand (commits step seen) (seen .objects) (decideOf step place rest seen .left .objects)
-unfolding decideOf tickOf sweepOf crashOf recoverOf beginOf abortOf retireOf refreshOf terminateOf prepareOf openOf askOf tellOf invokeOf dropOf
-decided-stand (Step.Tick site n) place rest seen = idle-stand _ _ seen _ refl
-decided-stand (Step.Begin home slot q r) place rest seen = idle-stand _ _ seen _ refl
-decided-stand (Step.Invoke h site write object value) place rest seen = idle-stand _ _ seen _ refl
-decided-stand (Step.Refresh h q r) place rest seen = idle-stand _ _ seen _ refl
-decided-stand (Step.Terminate h) place rest seen = idle-stand _ _ seen _ refl
-decided-stand (Step.Prepare h) place rest seen = idle-stand _ _ seen _ refl
-decided-stand (Step.Ask h site) place rest seen = idle-stand _ _ seen _ refl
-decided-stand (Step.Close h) place rest seen = close-stand h seen
-decided-stand (Step.Tell h site) place rest seen = idle-stand _ _ seen _ refl
-decided-stand (Step.Abort h) place rest seen = idle-stand _ _ seen _ refl
-decided-stand (Step.Deliver m) place rest seen = deliver-stand (seen .message .body) m seen
-decided-stand (Step.Drop m) place rest seen = idle-stand _ _ seen _ refl
-decided-stand (Step.Sweep site) place rest seen = idle-stand _ _ seen _ refl
-decided-stand (Step.Crash site) place rest seen = idle-stand _ _ seen _ refl
-decided-stand (Step.Recover site) place rest seen = idle-stand _ _ seen _ refl
-decided-stand (Step.Retire h) place rest seen = idle-stand _ _ seen _ refl
+decided-stand step place rest seen = seen-stand step place rest seen (deedOf step .objects)
 
 -- ---- the store
 

@@ -1,0 +1,229 @@
+-- What each step may change of the records that it saw, one row to a step: a law over steps then has a row for each step that matters to it, and one for all others. Assumes nothing.
+use Prim.Native.Nat.{ℕ, _+_}
+use mathlib.Core.Path.{_≡_, refl}
+use mathlib.Core.Logic.{⊎-elim}
+use mathlib.Core.Bool.{Bool, true, false, cond}
+use mathlib.Core.List.{List}
+use Rattle.rules.specs.Types.{Object, Passage, Site, Body, Step, Check, Trip, Seen, Decision}
+use Rattle.rules.specs.Answers.{isAccepted, firstOf, settleOf}
+use Rattle.rules.specs.LoopsLaws.{either, cond-keeps}
+use Rattle.rules.specs.AnswersLaws.{Fine, accepted-fine}
+use Rattle.rules.specs.Stations.{tickOf, sweepOf, crashOf, recoverOf}
+use Rattle.rules.specs.Passages.{beginOf, abortOf, retireOf}
+use Rattle.rules.specs.Rounds.{openOf, refreshOf, terminateOf, prepareOf, askOf, closeOf, tellOf}
+use Rattle.rules.specs.Calls.{atHome, invokeOf, emptyOf, deliverCallOf, deliverPhaseOneOf, deliverPhaseTwoOf, deliverAnswerOf, deliverBodyOf, dropOf}
+use Rattle.rules.specs.Machine.{lookOf, decideOf}
+use Rattle.rules.specs.Record.{isStep}
+use Rattle.rules.specs.Runs.{actsAtSite}
+
+-- ---- what is settled
+
+-- accepted: what was decided, where no check holds; refused: what was seen
+pub settled :
+    (P : Seen → Type 0) (cs : List Check) (v : ℕ) (seen left : Seen) → (Fine cs → P left) → P seen
+    → P (settleOf (record { answer = firstOf cs v; left = left }) seen .left)
+settled P cs v seen left f k = ⊎-elim (λ e. rw e (f (accepted-fine cs v e))) (λ e. rw e k) (either (isAccepted (firstOf cs v)))
+
+-- where it is accepted, the first of the two
+pub settled-accepted :
+    (P : Seen → Type 0) (cs : List Check) (v : ℕ) (seen left : Seen) → (Fine cs → P left) → isAccepted (firstOf cs v) ≡ true
+    → P (settleOf (record { answer = firstOf cs v; left = left }) seen .left)
+settled-accepted P cs v seen left f e = rw e (f (accepted-fine cs v e))
+
+-- a part of what a step saw that it leaves as it was
+abbrev pub Leaves : {A : Type 0} → (Seen → A) → Step → Type 0
+Leaves part step = (place : ℕ) (rest : Bool) (seen : Seen) → part (decideOf step place rest seen .left) ≡ part seen
+
+same : {A : Type 0} (part : Seen → A) (cs : List Check) (v : ℕ) (seen left : Seen) → part left ≡ part seen → part (settleOf (record { answer = firstOf cs v; left = left }) seen .left) ≡ part seen
+same part cs v seen left e = settled (λ x. part x ≡ part seen) cs v seen left (λ f. e) refl
+
+-- ---- the views
+
+-- of the objects: a close and a delivery may change them
+pub data Objects : Step → Type 0 where
+  Closes : (h : ℕ) → Objects (Step.Close h)
+  Delivers : (m : ℕ) → Objects (Step.Deliver m)
+  Stay : (step : Step) → isStep 8 step ≡ false → isStep 11 step ≡ false → Leaves (λ s. s .objects) step → Objects step
+
+-- of a slot's generation: a retire alone may change it
+pub data Generation : Step → Type 0 where
+  Retires : (h : ℕ) → Generation (Step.Retire h)
+  Stays : (step : Step) → isStep 16 step ≡ false → Leaves (λ s. s .passage .generation) step → Generation step
+
+-- of a visit's two marks, there and prepared
+pub data Marks : Step → Type 0 where
+  Begins : (home slot q r : ℕ) → Marks (Step.Begin home slot q r)
+  Terminates : (h : ℕ) → Marks (Step.Terminate h)
+  Prepares : (h : ℕ) → Marks (Step.Prepare h)
+  Closes : (h : ℕ) → Marks (Step.Close h)
+  Aborts : (h : ℕ) → Marks (Step.Abort h)
+  Delivers : (m : ℕ) → Marks (Step.Deliver m)
+  Stay : (step : Step) → Leaves (λ s. s .visit .there) step → Leaves (λ s. s .visit .prepared) step → Marks step
+
+-- of the site's clock: a tick moves it by its number, a delivery past the message's stamp, any other step that acts by 1
+pub data Clock : Step → Type 0 where
+  Ticks : (site n : ℕ) → Clock (Step.Tick site n)
+  Delivers : (m : ℕ) → Clock (Step.Deliver m)
+  Moves :
+      (step : Step) → actsAtSite step ≡ true
+      → ((place : ℕ) (rest : Bool) (seen : Seen) → isAccepted (decideOf step place rest seen .answer) ≡ true → decideOf step place rest seen .left .site .clock ≡ seen .site .clock + 1)
+      → Clock step
+  Rests : (step : Step) → actsAtSite step ≡ false → Leaves (λ s. s .site) step → Clock step
+
+-- whether a step goes through the slots of a site
+pub data Goes : Step → Type 0 where
+  Sweeps : (site : ℕ) → Goes (Step.Sweep site)
+  Crashes : (site : ℕ) → Goes (Step.Crash site)
+  Nowhere : (step : Step) → lookOf step .trip ≡ Trip.Nowhere → Goes step
+
+pub record Deed (step : Step) : Type 0 where
+  pub objects : Objects step
+  pub generation : Generation step
+  pub marks : Marks step
+  pub clock : Clock step
+  pub goes : Goes step
+
+-- at home a message may give the passage another status, and no other generation
+home-generation : (b : Bool) (x y : Passage) (g : ℕ) → x .generation ≡ g → y .generation ≡ g → cond b x y .generation ≡ g
+home-generation b x y g = cond-keeps (λ (p : Passage). p .generation ≡ g) b x y
+
+delivered-generation : (body : Body) (m : ℕ) (seen : Seen) → deliverBodyOf body m seen .left .passage .generation ≡ seen .passage .generation
+unfolding deliverBodyOf emptyOf deliverCallOf deliverPhaseOneOf deliverPhaseTwoOf deliverAnswerOf
+delivered-generation Body.Empty m seen = same (λ s. s .passage .generation) _ _ seen _ refl
+delivered-generation (Body.Call c) m seen = same (λ s. s .passage .generation) _ _ seen _ refl
+delivered-generation (Body.PhaseOne n a) m seen =
+    same (λ s. s .passage .generation) _ _ seen _ (home-generation (atHome seen) _ (seen .passage) _ refl refl)
+delivered-generation (Body.PhaseTwo n d) m seen =
+    same (λ s. s .passage .generation) _ _ seen _ (home-generation (atHome seen) _ (seen .passage) _ refl refl)
+delivered-generation (Body.Answer n r q) m seen = same (λ s. s .passage .generation) _ _ seen _ refl
+
+pub deedOf : (step : Step) → Deed step
+unfolding decideOf tickOf sweepOf crashOf recoverOf beginOf abortOf retireOf refreshOf terminateOf prepareOf openOf askOf closeOf tellOf invokeOf dropOf
+deedOf (Step.Tick site n) =
+    record {
+      objects = Objects.Stay _ refl refl (λ place rest seen. same (λ s. s .objects) _ _ seen _ refl);
+      generation = Generation.Stays _ refl (λ place rest seen. same (λ s. s .passage .generation) _ _ seen _ refl);
+      marks = Marks.Stay _ (λ place rest seen. same (λ s. s .visit .there) _ _ seen _ refl) (λ place rest seen. same (λ s. s .visit .prepared) _ _ seen _ refl);
+      clock = Clock.Ticks site n;
+      goes = Goes.Nowhere _ refl;
+    }
+deedOf (Step.Begin home slot q r) =
+    record {
+      objects = Objects.Stay _ refl refl (λ place rest seen. same (λ s. s .objects) _ _ seen _ refl);
+      generation = Generation.Stays _ refl (λ place rest seen. same (λ s. s .passage .generation) _ _ seen _ refl);
+      marks = Marks.Begins home slot q r;
+      clock = Clock.Moves _ refl (λ place rest seen e. settled-accepted (λ s. s .site .clock ≡ seen .site .clock + 1) _ _ seen _ (λ f. refl) e);
+      goes = Goes.Nowhere _ refl;
+    }
+deedOf (Step.Invoke h site write object value) =
+    record {
+      objects = Objects.Stay _ refl refl (λ place rest seen. same (λ s. s .objects) _ _ seen _ refl);
+      generation = Generation.Stays _ refl (λ place rest seen. same (λ s. s .passage .generation) _ _ seen _ refl);
+      marks = Marks.Stay _ (λ place rest seen. same (λ s. s .visit .there) _ _ seen _ refl) (λ place rest seen. same (λ s. s .visit .prepared) _ _ seen _ refl);
+      clock = Clock.Moves _ refl (λ place rest seen e. settled-accepted (λ s. s .site .clock ≡ seen .site .clock + 1) _ _ seen _ (λ f. refl) e);
+      goes = Goes.Nowhere _ refl;
+    }
+deedOf (Step.Refresh h q r) =
+    record {
+      objects = Objects.Stay _ refl refl (λ place rest seen. same (λ s. s .objects) _ _ seen _ refl);
+      generation = Generation.Stays _ refl (λ place rest seen. same (λ s. s .passage .generation) _ _ seen _ refl);
+      marks = Marks.Stay _ (λ place rest seen. same (λ s. s .visit .there) _ _ seen _ refl) (λ place rest seen. same (λ s. s .visit .prepared) _ _ seen _ refl);
+      clock = Clock.Moves _ refl (λ place rest seen e. settled-accepted (λ s. s .site .clock ≡ seen .site .clock + 1) _ _ seen _ (λ f. refl) e);
+      goes = Goes.Nowhere _ refl;
+    }
+deedOf (Step.Terminate h) =
+    record {
+      objects = Objects.Stay _ refl refl (λ place rest seen. same (λ s. s .objects) _ _ seen _ refl);
+      generation = Generation.Stays _ refl (λ place rest seen. same (λ s. s .passage .generation) _ _ seen _ refl);
+      marks = Marks.Terminates h;
+      clock = Clock.Moves _ refl (λ place rest seen e. settled-accepted (λ s. s .site .clock ≡ seen .site .clock + 1) _ _ seen _ (λ f. refl) e);
+      goes = Goes.Nowhere _ refl;
+    }
+deedOf (Step.Prepare h) =
+    record {
+      objects = Objects.Stay _ refl refl (λ place rest seen. same (λ s. s .objects) _ _ seen _ refl);
+      generation = Generation.Stays _ refl (λ place rest seen. same (λ s. s .passage .generation) _ _ seen _ refl);
+      marks = Marks.Prepares h;
+      clock = Clock.Moves _ refl (λ place rest seen e. settled-accepted (λ s. s .site .clock ≡ seen .site .clock + 1) _ _ seen _ (λ f. refl) e);
+      goes = Goes.Nowhere _ refl;
+    }
+deedOf (Step.Ask h site) =
+    record {
+      objects = Objects.Stay _ refl refl (λ place rest seen. same (λ s. s .objects) _ _ seen _ refl);
+      generation = Generation.Stays _ refl (λ place rest seen. same (λ s. s .passage .generation) _ _ seen _ refl);
+      marks = Marks.Stay _ (λ place rest seen. same (λ s. s .visit .there) _ _ seen _ refl) (λ place rest seen. same (λ s. s .visit .prepared) _ _ seen _ refl);
+      clock = Clock.Moves _ refl (λ place rest seen e. settled-accepted (λ s. s .site .clock ≡ seen .site .clock + 1) _ _ seen _ (λ f. refl) e);
+      goes = Goes.Nowhere _ refl;
+    }
+deedOf (Step.Close h) =
+    record {
+      objects = Objects.Closes h;
+      generation = Generation.Stays _ refl (λ place rest seen. same (λ s. s .passage .generation) _ _ seen _ refl);
+      marks = Marks.Closes h;
+      clock = Clock.Moves _ refl (λ place rest seen e. settled-accepted (λ s. s .site .clock ≡ seen .site .clock + 1) _ _ seen _ (λ f. refl) e);
+      goes = Goes.Nowhere _ refl;
+    }
+deedOf (Step.Tell h site) =
+    record {
+      objects = Objects.Stay _ refl refl (λ place rest seen. same (λ s. s .objects) _ _ seen _ refl);
+      generation = Generation.Stays _ refl (λ place rest seen. same (λ s. s .passage .generation) _ _ seen _ refl);
+      marks = Marks.Stay _ (λ place rest seen. same (λ s. s .visit .there) _ _ seen _ refl) (λ place rest seen. same (λ s. s .visit .prepared) _ _ seen _ refl);
+      clock = Clock.Moves _ refl (λ place rest seen e. settled-accepted (λ s. s .site .clock ≡ seen .site .clock + 1) _ _ seen _ (λ f. refl) e);
+      goes = Goes.Nowhere _ refl;
+    }
+deedOf (Step.Abort h) =
+    record {
+      objects = Objects.Stay _ refl refl (λ place rest seen. same (λ s. s .objects) _ _ seen _ refl);
+      generation = Generation.Stays _ refl (λ place rest seen. same (λ s. s .passage .generation) _ _ seen _ refl);
+      marks = Marks.Aborts h;
+      clock = Clock.Moves _ refl (λ place rest seen e. settled-accepted (λ s. s .site .clock ≡ seen .site .clock + 1) _ _ seen _ (λ f. refl) e);
+      goes = Goes.Nowhere _ refl;
+    }
+deedOf (Step.Deliver m) =
+    record {
+      objects = Objects.Delivers m;
+      generation = Generation.Stays _ refl (λ place rest seen. delivered-generation (seen .message .body) m seen);
+      marks = Marks.Delivers m;
+      clock = Clock.Delivers m;
+      goes = Goes.Nowhere _ refl;
+    }
+deedOf (Step.Drop m) =
+    record {
+      objects = Objects.Stay _ refl refl (λ place rest seen. same (λ s. s .objects) _ _ seen _ refl);
+      generation = Generation.Stays _ refl (λ place rest seen. same (λ s. s .passage .generation) _ _ seen _ refl);
+      marks = Marks.Stay _ (λ place rest seen. same (λ s. s .visit .there) _ _ seen _ refl) (λ place rest seen. same (λ s. s .visit .prepared) _ _ seen _ refl);
+      clock = Clock.Rests _ refl (λ place rest seen. same (λ s. s .site) _ _ seen _ refl);
+      goes = Goes.Nowhere _ refl;
+    }
+deedOf (Step.Sweep site) =
+    record {
+      objects = Objects.Stay _ refl refl (λ place rest seen. same (λ s. s .objects) _ _ seen _ refl);
+      generation = Generation.Stays _ refl (λ place rest seen. same (λ s. s .passage .generation) _ _ seen _ refl);
+      marks = Marks.Stay _ (λ place rest seen. same (λ s. s .visit .there) _ _ seen _ refl) (λ place rest seen. same (λ s. s .visit .prepared) _ _ seen _ refl);
+      clock = Clock.Moves _ refl (λ place rest seen e. settled-accepted (λ s. s .site .clock ≡ seen .site .clock + 1) _ _ seen _ (λ f. refl) e);
+      goes = Goes.Sweeps site;
+    }
+deedOf (Step.Crash site) =
+    record {
+      objects = Objects.Stay _ refl refl (λ place rest seen. same (λ s. s .objects) _ _ seen _ refl);
+      generation = Generation.Stays _ refl (λ place rest seen. same (λ s. s .passage .generation) _ _ seen _ refl);
+      marks = Marks.Stay _ (λ place rest seen. same (λ s. s .visit .there) _ _ seen _ refl) (λ place rest seen. same (λ s. s .visit .prepared) _ _ seen _ refl);
+      clock = Clock.Moves _ refl (λ place rest seen e. settled-accepted (λ s. s .site .clock ≡ seen .site .clock + 1) _ _ seen _ (λ f. refl) e);
+      goes = Goes.Crashes site;
+    }
+deedOf (Step.Recover site) =
+    record {
+      objects = Objects.Stay _ refl refl (λ place rest seen. same (λ s. s .objects) _ _ seen _ refl);
+      generation = Generation.Stays _ refl (λ place rest seen. same (λ s. s .passage .generation) _ _ seen _ refl);
+      marks = Marks.Stay _ (λ place rest seen. same (λ s. s .visit .there) _ _ seen _ refl) (λ place rest seen. same (λ s. s .visit .prepared) _ _ seen _ refl);
+      clock = Clock.Moves _ refl (λ place rest seen e. settled-accepted (λ s. s .site .clock ≡ seen .site .clock + 1) _ _ seen _ (λ f. refl) e);
+      goes = Goes.Nowhere _ refl;
+    }
+deedOf (Step.Retire h) =
+    record {
+      objects = Objects.Stay _ refl refl (λ place rest seen. same (λ s. s .objects) _ _ seen _ refl);
+      generation = Generation.Retires h;
+      marks = Marks.Stay _ (λ place rest seen. same (λ s. s .visit .there) _ _ seen _ refl) (λ place rest seen. same (λ s. s .visit .prepared) _ _ seen _ refl);
+      clock = Clock.Rests _ refl (λ place rest seen. same (λ s. s .site) _ _ seen _ refl);
+      goes = Goes.Nowhere _ refl;
+    }
