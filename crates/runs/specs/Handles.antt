@@ -10,7 +10,7 @@ use borrow.Author.Tests.{eqb-true, eq-eqb, ne-eqb, ltb-false}
 use Rattle.rules.specs.declared.answers.Trip.{Trip}
 use Rattle.rules.specs.declared.answers.Check.{Check}
 use Rattle.rules.specs.Loops.{oneIf}
-use Rattle.rules.specs.LoopsLaws.{either, or-left, or-right, not-false}
+use Rattle.rules.specs.LoopsLaws.{either, or-left, or-right, not-false, cond-keeps}
 use Rattle.rules.specs.Tables.{start, passageAt, slotOf, generationOf, handleOf, freeSlot, pastPassage}
 use Rattle.rules.specs.Ranges.{inRange}
 use Rattle.rules.specs.Answers.{isAccepted, answerValue, firstOf, settleOf}
@@ -26,7 +26,9 @@ use Rattle.rules.specs.StoredLaws.{Sized, Placed, passage-after-stored, passage
 use Rattle.rules.specs.RangesLaws.{placed-places, placed-slots}
 use Rattle.rules.specs.RangesKept.{turn-count-most}
 use Rattle.rules.specs.RefusedLaws.{refused-leaves}
+use Rattle.rules.specs.Record.{rowOf, isNamed, flatOf, isStep}
 use Rattle.rules.specs.Runs.{Entry, runOf, entryOf, entriesOf, historyOf}
+use Rattle.rules.specs.Views.{Generation, deedOf}
 use Rattle.runs.specs.Types.{Passage, Body, Tables, Step, Places, Seen, Outcome}
 use Rattle.runs.specs.Put.{same-or-other}
 use Rattle.runs.specs.Steps.{head-accepted, run-on}
@@ -51,22 +53,7 @@ moved retire g = cond retire ((g + 1) % 256) g
 
 -- does the step name this handle?
 abbrev pub names : ℕ → Step → Bool
-names h (Step.Tick site n) = false
-names h (Step.Begin home slot q r) = false
-names h (Step.Invoke g site write object value) = eqb g h
-names h (Step.Refresh g q r) = eqb g h
-names h (Step.Terminate g) = eqb g h
-names h (Step.Prepare g) = eqb g h
-names h (Step.Ask g site) = eqb g h
-names h (Step.Close g) = eqb g h
-names h (Step.Tell g site) = eqb g h
-names h (Step.Abort g) = eqb g h
-names h (Step.Deliver m) = false
-names h (Step.Drop m) = false
-names h (Step.Sweep site) = false
-names h (Step.Crash site) = false
-names h (Step.Recover site) = false
-names h (Step.Retire g) = eqb g h
+names h step = isNamed (rowOf (flatOf step .code)) 8 && eqb (flatOf step .h) h
 
 -- ---- what a decision leaves of the generation
 
@@ -75,33 +62,10 @@ record Moves (slot : ℕ) (step : Step) (seen left : Seen) : Type 0 where
   own : left .passage .generation ≡ moved (retires slot step) (seen .passage .generation)
   other : (p : ℕ) → p ≢ slot → retires p step ≡ false
 
--- a step that is no retire, and leaves the generation where it decides
-still :
-    (slot : ℕ) (step : Step) (cs : List Check) (v : ℕ) (seen left : Seen) → ((p : ℕ) → retires p step ≡ false)
-    → left .passage .generation ≡ seen .passage .generation
-    → Moves slot step seen (settleOf (record { answer = firstOf cs v; left = left }) seen .left)
-still slot step cs v seen left never e =
-    record { own = rw (never slot) (both (isAccepted (firstOf cs v))); other = λ p n. never p }
-  where
-    both : (b : Bool) → cond b left seen .passage .generation ≡ seen .passage .generation
-    both true = e
-    both false = refl
-
--- at home a message may give the passage another status, and no other generation
+-- a change of a passage's status leaves its generation
 at-home-generation :
     (b : Bool) (x y : Passage) (g : ℕ) → x .generation ≡ g → y .generation ≡ g → cond b x y .generation ≡ g
-at-home-generation true x y g d e = d
-at-home-generation false x y g d e = e
-
-delivered-moves : (slot : ℕ) (body : Body) (m : ℕ) (seen : Seen) → Moves slot (Step.Deliver m) seen (deliverBodyOf body m seen .left)
-unfolding deliverBodyOf emptyOf deliverCallOf deliverPhaseOneOf deliverPhaseTwoOf deliverAnswerOf
-delivered-moves slot Body.Empty m seen = still slot (Step.Deliver m) _ _ seen _ (λ p. refl) refl
-delivered-moves slot (Body.Call c) m seen = still slot (Step.Deliver m) _ _ seen _ (λ p. refl) refl
-delivered-moves slot (Body.PhaseOne n a) m seen =
-    still slot (Step.Deliver m) _ _ seen _ (λ p. refl) (at-home-generation (atHome seen) _ (seen .passage) _ refl refl)
-delivered-moves slot (Body.PhaseTwo n d) m seen =
-    still slot (Step.Deliver m) _ _ seen _ (λ p. refl) (at-home-generation (atHome seen) _ (seen .passage) _ refl refl)
-delivered-moves slot (Body.Answer n r q) m seen = still slot (Step.Deliver m) _ _ seen _ (λ p. refl) refl
+at-home-generation b x y g = cond-keeps (λ (p : Passage). p .generation ≡ g) b x y
 
 -- an accepted retire moves the generation of the slot that its handle names
 retire-moves :
@@ -114,27 +78,20 @@ retire-moves h rest seen e =
       other = λ p n. ne-eqb (slotOf h) p (λ q. n (sym q));
     }
 
+seen-moves :
+    (t : Tables) (step : Step) (place : ℕ) (rest : Bool) (seen : Seen) → Generation step
+    → isAccepted (decideOf step place rest seen .answer) ≡ true
+    → Moves (placesOf t (lookOf step) .slot) step seen (decideOf step place rest seen .left)
+unfolding placesOf decideOf
+seen-moves t _ place rest seen (Generation.Retires h) e = retire-moves h rest seen e
+seen-moves t _ place rest seen (Generation.Stays step never stays) e =
+    record { own = rw never (stays place rest seen); other = λ p n. rw never }
+
 decided-moves :
     (t : Tables) (step : Step) (place : ℕ) (rest : Bool) (seen : Seen)
     → isAccepted (decideOf step place rest seen .answer) ≡ true
     → Moves (placesOf t (lookOf step) .slot) step seen (decideOf step place rest seen .left)
-unfolding placesOf decideOf tickOf sweepOf crashOf recoverOf beginOf abortOf refreshOf terminateOf prepareOf openOf askOf closeOf tellOf invokeOf dropOf
-decided-moves t (Step.Tick site n) place rest seen e = still _ (Step.Tick site n) _ _ seen _ (λ p. refl) refl
-decided-moves t (Step.Begin home slot q r) place rest seen e = still _ (Step.Begin home slot q r) _ _ seen _ (λ p. refl) refl
-decided-moves t (Step.Invoke h site write object value) place rest seen e = still _ (Step.Invoke h site write object value) _ _ seen _ (λ p. refl) refl
-decided-moves t (Step.Refresh h q r) place rest seen e = still _ (Step.Refresh h q r) _ _ seen _ (λ p. refl) refl
-decided-moves t (Step.Terminate h) place rest seen e = still _ (Step.Terminate h) _ _ seen _ (λ p. refl) refl
-decided-moves t (Step.Prepare h) place rest seen e = still _ (Step.Prepare h) _ _ seen _ (λ p. refl) refl
-decided-moves t (Step.Ask h site) place rest seen e = still _ (Step.Ask h site) _ _ seen _ (λ p. refl) refl
-decided-moves t (Step.Close h) place rest seen e = still _ (Step.Close h) _ _ seen _ (λ p. refl) refl
-decided-moves t (Step.Tell h site) place rest seen e = still _ (Step.Tell h site) _ _ seen _ (λ p. refl) refl
-decided-moves t (Step.Abort h) place rest seen e = still _ (Step.Abort h) _ _ seen _ (λ p. refl) refl
-decided-moves t (Step.Deliver m) place rest seen e = delivered-moves _ (seen .message .body) m seen
-decided-moves t (Step.Drop m) place rest seen e = still _ (Step.Drop m) _ _ seen _ (λ p. refl) refl
-decided-moves t (Step.Sweep site) place rest seen e = still _ (Step.Sweep site) _ _ seen _ (λ p. refl) refl
-decided-moves t (Step.Crash site) place rest seen e = still _ (Step.Crash site) _ _ seen _ (λ p. refl) refl
-decided-moves t (Step.Recover site) place rest seen e = still _ (Step.Recover site) _ _ seen _ (λ p. refl) refl
-decided-moves t (Step.Retire h) place rest seen e = retire-moves h rest seen e
+decided-moves t step place rest seen = seen-moves t step place rest seen (deedOf step .generation)
 
 -- ---- steps
 

@@ -5,54 +5,29 @@ use mathlib.Core.List.{List, [], _∷_}
 use lib.Dec.{eqb}
 use Rattle.rules.specs.Loops.{oneIf, mostUpTo}
 use Rattle.rules.specs.Tables.{visitAt, messageAt, slotOf}
+use Rattle.rules.specs.Record.{flatOf, isStep}
 use Rattle.rules.specs.Runs.{Entry}
 use Rattle.rules.specs.Machine.{isMessageOf}
 use Rattle.runs.specs.Types.{Visit, Asked, Told, Body, Message, Tables, Step}
 
 -- ---- the past, from the list of accepted steps
 
--- whether a commit round (an accepted prepare) has begun since the passage's begin, where before said so until now
+-- whether a commit round (an accepted prepare, code 6) has begun since the passage's begin (code 2), where before said so until now
 abbrev pub commitAfter : ℕ → Bool → Step → Bool
-commitAfter p before (Step.Tick site n) = before
-commitAfter p before (Step.Begin home slot q r) = cond (eqb (slotOf slot) p) false before
-commitAfter p before (Step.Invoke h site write object value) = before
-commitAfter p before (Step.Refresh h q r) = before
-commitAfter p before (Step.Terminate h) = before
-commitAfter p before (Step.Prepare h) = cond (eqb (slotOf h) p) true before
-commitAfter p before (Step.Ask h site) = before
-commitAfter p before (Step.Close h) = before
-commitAfter p before (Step.Tell h site) = before
-commitAfter p before (Step.Abort h) = before
-commitAfter p before (Step.Deliver m) = before
-commitAfter p before (Step.Drop m) = before
-commitAfter p before (Step.Sweep site) = before
-commitAfter p before (Step.Crash site) = before
-commitAfter p before (Step.Recover site) = before
-commitAfter p before (Step.Retire h) = before
+commitAfter p before step =
+    cond
+    (isStep 2 step && eqb (slotOf (flatOf step .b)) p)
+    false
+    (cond (isStep 6 step && eqb (slotOf (flatOf step .h)) p) true before)
 
 -- "never began a commit round (an accepted prepare)": this is false of the list so far
 unfoldable pub beganCommit : ℕ → Bool → List Entry → Bool
 beganCommit p before [] = before
 beganCommit p before (e ∷ es) = beganCommit p (commitAfter p before (e .step)) es
 
--- a retire of this slot
+-- a retire of this slot (code 16)
 abbrev pub retires : ℕ → Step → Bool
-retires p (Step.Tick site n) = false
-retires p (Step.Begin home slot q r) = false
-retires p (Step.Invoke h site write object value) = false
-retires p (Step.Refresh h q r) = false
-retires p (Step.Terminate h) = false
-retires p (Step.Prepare h) = false
-retires p (Step.Ask h site) = false
-retires p (Step.Close h) = false
-retires p (Step.Tell h site) = false
-retires p (Step.Abort h) = false
-retires p (Step.Deliver m) = false
-retires p (Step.Drop m) = false
-retires p (Step.Sweep site) = false
-retires p (Step.Crash site) = false
-retires p (Step.Recover site) = false
-retires p (Step.Retire h) = eqb (slotOf h) p
+retires p step = isStep 16 step && eqb (slotOf (flatOf step .h)) p
 
 -- "while it is not retired": no accepted retire of the slot in the list
 unfoldable pub isRetired : ℕ → List Entry → Bool

@@ -4,7 +4,7 @@ use Prim.Native.Nat.{ℕ, zero, suc, _%_, _≤_, _<_}
 use native.Mathlib.Omega.{arith}
 use mathlib.Core.Path.{_≡_, refl, sym, ap, _∙_, subst₂}
 use mathlib.Core.Logic.{_≢_, ⊎-elim, _⊎_, inl, inr}
-use mathlib.Core.Bool.{Bool, true, false, not, _&&_, _||_, true≢false}
+use mathlib.Core.Bool.{Bool, true, false, not, _&&_, _||_, true≢false, cond}
 use mathlib.Core.List.{List}
 use lib.Dec.{eqb, leb}
 use borrow.Author.Tests.{eq-eqb}
@@ -24,8 +24,10 @@ use Rattle.rules.specs.StoredLaws.{Sized, Placed, visit-place-same, visit-after
 use Rattle.rules.specs.RangesLaws.{placed-places, placed-slots}
 use Rattle.rules.specs.RangesKept.{turn-count-most}
 use Rattle.rules.specs.RefusedLaws.{refused-leaves}
+use Rattle.rules.specs.Record.{flatOf, isStep}
 use Rattle.rules.specs.Runs.{runOf}
-use Rattle.runs.specs.Types.{Kind, Visit, Told, Body, Tables, Step, Places, Seen, Outcome}
+use Rattle.rules.specs.Views.{settled, Marks, deedOf}
+use Rattle.runs.specs.Types.{Kind, Visit, Told, Body, Message, Tables, Step, Places, Seen, Outcome}
 use Rattle.runs.specs.Put.{same-or-other}
 use Rattle.runs.specs.TimesKept.{asked-says}
 use Rattle.runs.specs.Rests.{isPrepare, carriesCommit}
@@ -39,26 +41,14 @@ pub record Promised (t : Tables) (site slot : ℕ) : Type 0 where
   pub prepared : visitAt t site slot .prepared ≡ true
 
 -- is the step home's word to the visit of this slot at this site?
--- At home it is the close of a commit round, else the delivery there of a commit's phase 2 for the slot; refusal 9 sees to the round. (Sites are 0..7 and messages 0..31, so the remainders change nothing.)
+-- At home it is the close (code 8) of a commit round, else the delivery (code 11) there of a commit's phase 2 for the slot; refusal 9 sees to the round. (Sites are 0..7 and messages 0..31, so the remainders change nothing.)
 abbrev pub isWord : Tables → ℕ → ℕ → Step → Bool
-isWord t site slot (Step.Tick a n) = false
-isWord t site slot (Step.Begin home b q r) = false
-isWord t site slot (Step.Invoke h a write object value) = false
-isWord t site slot (Step.Refresh h q r) = false
-isWord t site slot (Step.Terminate h) = false
-isWord t site slot (Step.Prepare h) = false
-isWord t site slot (Step.Ask h a) = false
-isWord t site slot (Step.Close h) = eqb (slotOf h) slot && eqb (passageAt t slot .home % 8) site && isPrepare (passageAt t slot .round .kind)
-isWord t site slot (Step.Tell h a) = false
-isWord t site slot (Step.Abort h) = false
-isWord t site slot (Step.Deliver m) =
-    eqb (slotOf (messageAt t (m % 32) .handle)) slot && eqb (messageAt t (m % 32) .destination % 8) site
-    && carriesCommit (messageAt t (m % 32) .body)
-isWord t site slot (Step.Drop m) = false
-isWord t site slot (Step.Sweep a) = false
-isWord t site slot (Step.Crash a) = false
-isWord t site slot (Step.Recover a) = false
-isWord t site slot (Step.Retire h) = false
+isWord t site slot step =
+    let m : Message = messageAt t (flatOf step .c % 32) in
+    cond
+    (isStep 8 step)
+    (eqb (slotOf (flatOf step .h)) slot && eqb (passageAt t slot .home % 8) site && isPrepare (passageAt t slot .round .kind))
+    (isStep 11 step && (eqb (slotOf (m .handle)) slot && eqb (m .destination % 8) site && carriesCommit (m .body)))
 
 -- ---- what a decision leaves of its visit
 
@@ -82,7 +72,7 @@ firm-there (Trip.Crash site) v e = e
 settled-firm :
     (trip : Trip) (cs : List Check) (v : ℕ) (seen left : Seen) → Firm trip (left .visit) → Firm trip (seen .visit)
     → Firm trip (settleOf (record { answer = firstOf cs v; left = left }) seen .left .visit)
-settled-firm trip cs v seen left = cond-keeps (λ (x : Seen). Firm trip (x .visit)) (isAccepted (firstOf cs v)) left seen
+settled-firm trip cs v seen left e = settled (λ (x : Seen). Firm trip (x .visit)) cs v seen left (λ g. e)
 
 -- a rule that changes a visit and leaves it there
 changed-there : (v changed : Visit) → v .there ≡ true → changed .there ≡ true → whereThere v changed .there ≡ true
@@ -113,19 +103,16 @@ delivered-there (Body.Answer n r q) m seen e f = settled-firm Trip.Nowhere _ _ s
 pub word-here : (a b : ℕ) (c : Bool) → (eqb a a && eqb b b && c) ≡ false → c ≡ false
 word-here a b c f = rw (eq-eqb a a refl, eq-eqb b b refl) at f
 
-decided-firm :
-    (t : Tables) (step : Step) (place : ℕ) (rest : Bool) → Promised t (placesOf t (lookOf step) .site) (placesOf t (lookOf step) .slot)
+-- what a step leaves there, and prepared where it goes on to sweep
+marked-firm :
+    (t : Tables) (step : Step) (place : ℕ) (rest : Bool) → Marks step → Promised t (placesOf t (lookOf step) .site) (placesOf t (lookOf step) .slot)
     → isWord t (placesOf t (lookOf step) .site) (placesOf t (lookOf step) .slot) step ≡ false
     → Firm (lookOf step .trip) (decideOf step place rest (seenOf t (placesOf t (lookOf step))) .left .visit)
-unfolding placesOf decideOf tickOf sweepOf crashOf recoverOf beginOf abortOf retireOf refreshOf terminateOf prepareOf openOf askOf closeOf tellOf invokeOf dropOf
-decided-firm t (Step.Tick site n) place rest k f = settled-firm Trip.Nowhere _ _ _ _ (k .there) (k .there)
-decided-firm t (Step.Begin home slot q r) place rest k f = settled-firm Trip.Nowhere _ _ _ _ refl (k .there)
-decided-firm t (Step.Invoke h site write object value) place rest k f = settled-firm Trip.Nowhere _ _ _ _ (k .there) (k .there)
-decided-firm t (Step.Refresh h q r) place rest k f = settled-firm Trip.Nowhere _ _ _ _ (k .there) (k .there)
-decided-firm t (Step.Terminate h) place rest k f = settled-firm Trip.Nowhere _ _ _ _ (k .there) (k .there)
-decided-firm t (Step.Prepare h) place rest k f = settled-firm Trip.Nowhere _ _ _ _ (k .there) (k .there)
-decided-firm t (Step.Ask h site) place rest k f = settled-firm Trip.Nowhere _ _ _ _ (k .there) (k .there)
-decided-firm t (Step.Close h) place rest k f =
+unfolding placesOf decideOf beginOf abortOf terminateOf prepareOf openOf closeOf
+marked-firm t _ place rest (Marks.Begins home slot q r) k f = settled-firm Trip.Nowhere _ _ _ _ refl (k .there)
+marked-firm t _ place rest (Marks.Terminates h) k f = settled-firm Trip.Nowhere _ _ _ _ (k .there) (k .there)
+marked-firm t _ place rest (Marks.Prepares h) k f = settled-firm Trip.Nowhere _ _ _ _ (k .there) (k .there)
+marked-firm t _ place rest (Marks.Closes h) k f =
     settled-firm
     Trip.Nowhere
     _
@@ -134,21 +121,23 @@ decided-firm t (Step.Close h) place rest k f =
     _
     (changed-there _ _ (k .there) (closed-there (passageAt t (slotOf h) .round .kind) _ _ (k .there) (word-here (slotOf h) (passageAt t (slotOf h) .home % 8) _ f)))
     (k .there)
-decided-firm t (Step.Tell h site) place rest k f = settled-firm Trip.Nowhere _ _ _ _ (k .there) (k .there)
-decided-firm t (Step.Abort h) place rest k f = settled-firm Trip.Nowhere _ _ _ _ (changed-there _ _ (k .there) (k .there)) (k .there)
-decided-firm t (Step.Deliver m) place rest k f =
+marked-firm t _ place rest (Marks.Aborts h) k f = settled-firm Trip.Nowhere _ _ _ _ (changed-there _ _ (k .there) (k .there)) (k .there)
+marked-firm t _ place rest (Marks.Delivers m) k f =
     delivered-there
     (messageAt t (m % 32) .body)
     m
     _
     (k .there)
     (word-here (slotOf (messageAt t (m % 32) .handle)) (messageAt t (m % 32) .destination % 8) _ f)
-decided-firm t (Step.Drop m) place rest k f = settled-firm Trip.Nowhere _ _ _ _ (k .there) (k .there)
-decided-firm t (Step.Sweep site) place rest k f =
-    settled-firm (Trip.Sweep site) _ _ _ _ (k .there, k .prepared) (k .there, k .prepared)
-decided-firm t (Step.Crash site) place rest k f = settled-firm (Trip.Crash site) _ _ _ _ (k .there) (k .there)
-decided-firm t (Step.Recover site) place rest k f = settled-firm Trip.Nowhere _ _ _ _ (k .there) (k .there)
-decided-firm t (Step.Retire h) place rest k f = settled-firm Trip.Nowhere _ _ _ _ (k .there) (k .there)
+marked-firm t _ place rest (Marks.Stay step there prepared) k f =
+    let seen = seenOf t (placesOf t (lookOf step)) in
+    firm (lookOf step .trip) (decideOf step place rest seen .left .visit) (there place rest seen ∙ k .there) (prepared place rest seen ∙ k .prepared)
+
+decided-firm :
+    (t : Tables) (step : Step) (place : ℕ) (rest : Bool) → Promised t (placesOf t (lookOf step) .site) (placesOf t (lookOf step) .slot)
+    → isWord t (placesOf t (lookOf step) .site) (placesOf t (lookOf step) .slot) step ≡ false
+    → Firm (lookOf step .trip) (decideOf step place rest (seenOf t (placesOf t (lookOf step))) .left .visit)
+decided-firm t step place rest = marked-firm t step place rest (deedOf step .marks)
 
 -- ---- what one slot of a sweep or of a crash leaves of its visit
 

@@ -1,9 +1,10 @@
 -- The width of an object at rest, kept along a run: the value that it had when nobody held it last. And what a change of one object does to it.
 -- The idea: the tables know it too, as the value while nobody holds the object and as the value before while someone does. Assumes nothing.
+use Rattle.rules.specs.Record.{isStep}
 use Prim.Native.Nat.{ℕ, zero, suc}
 use mathlib.Core.Path.{_≡_, refl, ap, _∙_}
 use mathlib.Core.Logic.{_⊎_, inl, inr}
-use mathlib.Core.Bool.{Bool, true, false, cond, false≢true}
+use mathlib.Core.Bool.{Bool, true, false, cond, false≢true, _&&_}
 use mathlib.Core.List.{List, [], _∷_}
 use lib.Dec.{eqb}
 use lib.ListN.{getD, set}
@@ -57,24 +58,10 @@ carriesCommit (Body.PhaseOne n asked) = false
 carriesCommit (Body.PhaseTwo n told) = tellsPrepare told
 carriesCommit (Body.Answer n received q) = false
 
--- by the step and what it sees
+-- by the step and what it sees: a close (code 8) of a commit round, or a delivery (code 11) of its word
 abbrev pub commits : Step → Seen → Bool
-commits (Step.Tick site n) seen = false
-commits (Step.Begin home slot q r) seen = false
-commits (Step.Invoke h site write object value) seen = false
-commits (Step.Refresh h q r) seen = false
-commits (Step.Terminate h) seen = false
-commits (Step.Prepare h) seen = false
-commits (Step.Ask h site) seen = false
-commits (Step.Close h) seen = isPrepare (seen .passage .round .kind)
-commits (Step.Tell h site) seen = false
-commits (Step.Abort h) seen = false
-commits (Step.Deliver m) seen = carriesCommit (seen .message .body)
-commits (Step.Drop m) seen = false
-commits (Step.Sweep site) seen = false
-commits (Step.Crash site) seen = false
-commits (Step.Recover site) seen = false
-commits (Step.Retire h) seen = false
+commits step seen =
+    cond (isStep 8 step) (isPrepare (seen .passage .round .kind)) (isStep 11 step && carriesCommit (seen .message .body))
 
 -- ---- the width that stands, read off one object
 

@@ -25,8 +25,10 @@ use Rattle.rules.specs.StoredLaws.{Sized, Placed, sized-after-stored, passage-a
 use Rattle.rules.specs.RangesLaws.{placed-places, placed-slots}
 use Rattle.rules.specs.RangesKept.{turn-count-most}
 use Rattle.rules.specs.RefusedLaws.{refused-leaves}
+use Rattle.rules.specs.Record.{flatOf, isStep}
 use Rattle.rules.specs.Runs.{runOf}
-use Rattle.runs.specs.Types.{Kind, Passage, Visit, Asked, Told, Body, Tables, Step, Places, Seen, Outcome}
+use Rattle.rules.specs.Views.{settled, Marks, Goes, deedOf}
+use Rattle.runs.specs.Types.{Kind, Passage, Visit, Asked, Told, Body, Message, Tables, Step, Places, Seen, Outcome}
 use Rattle.runs.specs.Put.{same-or-other}
 use Rattle.runs.specs.LifeFits.{free-says}
 use Rattle.runs.specs.Steps.{run-on}
@@ -48,27 +50,21 @@ asksTerminate (Body.PhaseOne n Asked.Prepare) = false
 asksTerminate (Body.PhaseTwo n d) = false
 asksTerminate (Body.Answer n r q) = false
 
--- does the step let the station off its promise to this slot? By the commit's last word; by a terminate's first;
--- and at home by an abort, or by a crash while the passage runs
+-- does the step let the station off its promise to this slot? By the commit's last word (a close, code 8, or a delivery, code 11); by a terminate's first (code 5, or a delivery);
+-- and at home by an abort (code 10), or by a crash (code 14) while the passage runs
 abbrev pub letsOff : Tables → ℕ → ℕ → Step → Bool
-letsOff t site slot (Step.Tick a n) = false
-letsOff t site slot (Step.Begin home b q r) = false
-letsOff t site slot (Step.Invoke h a write object value) = false
-letsOff t site slot (Step.Refresh h q r) = false
-letsOff t site slot (Step.Terminate h) = eqb (slotOf h) slot && eqb (passageAt t slot .home % 8) site
-letsOff t site slot (Step.Prepare h) = false
-letsOff t site slot (Step.Ask h a) = false
-letsOff t site slot (Step.Close h) = isWord t site slot (Step.Close h)
-letsOff t site slot (Step.Tell h a) = false
-letsOff t site slot (Step.Abort h) = eqb (slotOf h) slot && eqb (passageAt t slot .home % 8) site
-letsOff t site slot (Step.Deliver m) =
-    eqb (slotOf (messageAt t (m % 32) .handle)) slot && eqb (messageAt t (m % 32) .destination % 8) site
-    && (carriesCommit (messageAt t (m % 32) .body) || asksTerminate (messageAt t (m % 32) .body))
-letsOff t site slot (Step.Drop m) = false
-letsOff t site slot (Step.Sweep a) = false
-letsOff t site slot (Step.Crash a) = eqb (a % 8) site && losesHome a (passageAt t slot)
-letsOff t site slot (Step.Recover a) = false
-letsOff t site slot (Step.Retire h) = false
+letsOff t site slot step =
+    let m : Message = messageAt t (flatOf step .c % 32) in
+    cond
+    (isStep 5 step || isStep 10 step)
+    (eqb (slotOf (flatOf step .h)) slot && eqb (passageAt t slot .home % 8) site)
+    (cond
+    (isStep 8 step)
+    (isWord t site slot step)
+    (cond
+    (isStep 11 step)
+    (eqb (slotOf (m .handle)) slot && eqb (m .destination % 8) site && (carriesCommit (m .body) || asksTerminate (m .body)))
+    (isStep 14 step && (eqb (flatOf step .a % 8) site && losesHome (flatOf step .a) (passageAt t slot)))))
 
 -- whether an accepted step of the list does
 unfoldable pub letOffIn : Tables → ℕ → ℕ → List Step → Bool
@@ -86,8 +82,7 @@ Stands v = (v .there ≡ true) × (v .prepared ≡ true)
 settled-stands :
     (cs : List Check) (v : ℕ) (seen left : Seen) → (Fine cs → Stands (left .visit)) → Stands (seen .visit)
     → Stands (settleOf (record { answer = firstOf cs v; left = left }) seen .left .visit)
-settled-stands cs v seen left f k =
-    ⊎-elim (λ e. rw e (f (accepted-fine cs v e))) (λ e. rw e k) (either (isAccepted (firstOf cs v)))
+settled-stands cs v seen left = settled (λ (x : Seen). Stands (x .visit)) cs v seen left
 
 -- a round of another kind opens or closes: the mark stays
 closed-stands : (k : Kind) (m : ℕ) (v : Visit) → Stands v → isPrepare k ≡ false → Stands (whereThere v (toldVisit (toldOf k m) v))
@@ -115,21 +110,17 @@ home-here : (a b : ℕ) → (eqb a a && eqb b b) ≡ false → ⊥
 home-here a b f = true≢false (rw (eq-eqb a a refl, eq-eqb b b refl) at f)
 
 -- a slot in use is not begun
-decided-stands :
-    (t : Tables) (step : Step) (place : ℕ) (rest : Bool) → Stands (visitAt t (placesOf t (lookOf step) .site) (placesOf t (lookOf step) .slot))
+marked-stands :
+    (t : Tables) (step : Step) (place : ℕ) (rest : Bool) → Marks step → Stands (visitAt t (placesOf t (lookOf step) .site) (placesOf t (lookOf step) .slot))
     → isFree (passageAt t (placesOf t (lookOf step) .slot) .status) ≡ false
     → letsOff t (placesOf t (lookOf step) .site) (placesOf t (lookOf step) .slot) step ≡ false
     → Stands (decideOf step place rest (seenOf t (placesOf t (lookOf step))) .left .visit)
-unfolding placesOf decideOf tickOf sweepOf crashOf recoverOf beginOf abortOf retireOf refreshOf terminateOf prepareOf openOf askOf closeOf tellOf invokeOf dropOf
-decided-stands t (Step.Tick site n) place rest k u f = settled-stands _ _ _ _ (λ g. k) k
-decided-stands t (Step.Begin home slot q r) place rest k u f =
+unfolding placesOf decideOf beginOf abortOf terminateOf prepareOf openOf closeOf
+marked-stands t _ place rest (Marks.Begins home slot q r) k u f =
     settled-stands _ _ _ _ (λ g. absurd (true≢false (sym (not-false (isFree (passageAt t (slotOf slot) .status)) (g .state)) ∙ u))) k
-decided-stands t (Step.Invoke h site write object value) place rest k u f = settled-stands _ _ _ _ (λ g. k) k
-decided-stands t (Step.Refresh h q r) place rest k u f = settled-stands _ _ _ _ (λ g. k) k
-decided-stands t (Step.Terminate h) place rest k u f = absurd (home-here (slotOf h) (passageAt t (slotOf h) .home % 8) f)
-decided-stands t (Step.Prepare h) place rest k u f = settled-stands _ _ _ _ (λ g. (k .0, refl)) k
-decided-stands t (Step.Ask h site) place rest k u f = settled-stands _ _ _ _ (λ g. k) k
-decided-stands t (Step.Close h) place rest k u f =
+marked-stands t _ place rest (Marks.Terminates h) k u f = absurd (home-here (slotOf h) (passageAt t (slotOf h) .home % 8) f)
+marked-stands t _ place rest (Marks.Prepares h) k u f = settled-stands _ _ _ _ (λ g. (k .0, refl)) k
+marked-stands t _ place rest (Marks.Closes h) k u f =
     settled-stands
     _
     _
@@ -137,20 +128,24 @@ decided-stands t (Step.Close h) place rest k u f =
     _
     (λ g. closed-stands (passageAt t (slotOf h) .round .kind) _ _ k (word-here (slotOf h) (passageAt t (slotOf h) .home % 8) _ f))
     k
-decided-stands t (Step.Tell h site) place rest k u f = settled-stands _ _ _ _ (λ g. k) k
-decided-stands t (Step.Abort h) place rest k u f = absurd (home-here (slotOf h) (passageAt t (slotOf h) .home % 8) f)
-decided-stands t (Step.Deliver m) place rest k u f =
+marked-stands t _ place rest (Marks.Aborts h) k u f = absurd (home-here (slotOf h) (passageAt t (slotOf h) .home % 8) f)
+marked-stands t _ place rest (Marks.Delivers m) k u f =
     delivered-stands
     (messageAt t (m % 32) .body)
     m
     _
     k
     (word-here (slotOf (messageAt t (m % 32) .handle)) (messageAt t (m % 32) .destination % 8) _ f)
-decided-stands t (Step.Drop m) place rest k u f = settled-stands _ _ _ _ (λ g. k) k
-decided-stands t (Step.Sweep site) place rest k u f = settled-stands _ _ _ _ (λ g. k) k
-decided-stands t (Step.Crash site) place rest k u f = settled-stands _ _ _ _ (λ g. k) k
-decided-stands t (Step.Recover site) place rest k u f = settled-stands _ _ _ _ (λ g. k) k
-decided-stands t (Step.Retire h) place rest k u f = settled-stands _ _ _ _ (λ g. k) k
+marked-stands t _ place rest (Marks.Stay step there prepared) k u f =
+    let seen = seenOf t (placesOf t (lookOf step)) in
+    (there place rest seen ∙ k .0, prepared place rest seen ∙ k .1)
+
+decided-stands :
+    (t : Tables) (step : Step) (place : ℕ) (rest : Bool) → Stands (visitAt t (placesOf t (lookOf step) .site) (placesOf t (lookOf step) .slot))
+    → isFree (passageAt t (placesOf t (lookOf step) .slot) .status) ≡ false
+    → letsOff t (placesOf t (lookOf step) .site) (placesOf t (lookOf step) .slot) step ≡ false
+    → Stands (decideOf step place rest (seenOf t (placesOf t (lookOf step))) .left .visit)
+decided-stands t step place rest = marked-stands t step place rest (deedOf step .marks)
 
 -- ---- steps, for the visit of one slot at one site
 
@@ -221,30 +216,21 @@ module _ (s p : ℕ) (slot : p < 16) where
       (λ b. cond-keeps (λ (x : Seen). P (x .passage)) (isAccepted (firstOf (crashChecks site (seenOf t at)) 0)) _ (seenOf t at) (subst (λ (y : ℕ). P (passageAt t y)) b k) (subst (λ (y : ℕ). P (passageAt t y)) b k))
       k
 
-  head-away :
-      (t : Tables) (step : Step) → Sized t → letsOff t s p step ≡ false → Away (lookOf step .trip) (passageAt (headOf t step .tables) p)
-  head-away t (Step.Tick site n) z f = tt
-  head-away t (Step.Begin home b q r) z f = tt
-  head-away t (Step.Invoke h site write object value) z f = tt
-  head-away t (Step.Refresh h q r) z f = tt
-  head-away t (Step.Terminate h) z f = tt
-  head-away t (Step.Prepare h) z f = tt
-  head-away t (Step.Ask h site) z f = tt
-  head-away t (Step.Close h) z f = tt
-  head-away t (Step.Tell h site) z f = tt
-  head-away t (Step.Abort h) z f = tt
-  head-away t (Step.Deliver m) z f = tt
-  head-away t (Step.Drop m) z f = tt
-  head-away t (Step.Sweep site) z f = tt
-  head-away t (Step.Crash site) z f =
+  goes-away :
+      (t : Tables) (step : Step) → Goes step → Sized t → letsOff t s p step ≡ false → Away (lookOf step .trip) (passageAt (headOf t step .tables) p)
+  goes-away t _ (Goes.Sweeps site) z f = tt
+  goes-away t _ (Goes.Crashes site) z f =
       crash-away
       t
       site
       z
       (λ x. s ≡ site % 8 → losesHome site x ≡ false)
       (λ e. rw (eq-eqb (site % 8) s (sym e)) at f)
-  head-away t (Step.Recover site) z f = tt
-  head-away t (Step.Retire h) z f = tt
+  goes-away t _ (Goes.Nowhere step none) z f = rw none tt
+
+  head-away :
+      (t : Tables) (step : Step) → Sized t → letsOff t s p step ≡ false → Away (lookOf step .trip) (passageAt (headOf t step .tables) p)
+  head-away t step = goes-away t step (deedOf step .goes)
 
   -- one slot of a sweep, and one of a crash
   turn-on-way : (trip : Trip) (n : ℕ) (o : Outcome) → n < 16 → OnWay trip (o .tables) → OnWay trip (turnOf trip n o .tables)
