@@ -2,9 +2,12 @@
 use Prim.Native.Nat.{ℕ, _+_}
 use mathlib.Core.Path.{_≡_, refl}
 use mathlib.Core.Logic.{⊎-elim}
-use mathlib.Core.Bool.{Bool, true, false, cond}
+use mathlib.Core.Bool.{Bool, true, false, cond, not, _||_}
 use mathlib.Core.List.{List}
-use Rattle.rules.specs.Types.{Object, Passage, Site, Body, Step, Check, Trip, Seen, Decision}
+use lib.Dec.{eqb}
+use Rattle.rules.specs.Types.{Passage, Body, Step, Check, SlotAt, Trip, Seen}
+use Rattle.rules.specs.Tables.{generationOf}
+use Rattle.rules.specs.Parts.{isFree}
 use Rattle.rules.specs.Answers.{isAccepted, firstOf, settleOf}
 use Rattle.rules.specs.LoopsLaws.{either, cond-keeps}
 use Rattle.rules.specs.AnswersLaws.{Fine, accepted-fine}
@@ -13,7 +16,7 @@ use Rattle.rules.specs.Passages.{beginOf, abortOf, retireOf}
 use Rattle.rules.specs.Rounds.{openOf, refreshOf, terminateOf, prepareOf, askOf, closeOf, tellOf}
 use Rattle.rules.specs.Calls.{atHome, invokeOf, emptyOf, deliverCallOf, deliverPhaseOneOf, deliverPhaseTwoOf, deliverAnswerOf, deliverBodyOf, dropOf}
 use Rattle.rules.specs.Machine.{lookOf, decideOf}
-use Rattle.rules.specs.Record.{isStep}
+use Rattle.rules.specs.Record.{rowOf, isNamed, flatOf, isStep}
 use Rattle.rules.specs.Runs.{actsAtSite}
 
 -- ---- what is settled
@@ -76,12 +79,22 @@ pub data Goes : Step → Type 0 where
   Crashes : (site : ℕ) → Goes (Step.Crash site)
   Nowhere : (step : Step) → lookOf step .trip ≡ Trip.Nowhere → Goes step
 
+-- whether a step names a handle; an accepted one has found its passage
+pub data Handle : Step → Type 0 where
+  Named :
+      (step : Step) → lookOf step .slot ≡ SlotAt.Given (flatOf step .h)
+      → ((place : ℕ) (rest : Bool) (seen : Seen) → isAccepted (decideOf step place rest seen .answer) ≡ true
+      → (isFree (seen .passage .status) || not (eqb (seen .passage .generation) (generationOf (flatOf step .h)))) ≡ false)
+      → Handle step
+  Nameless : (step : Step) → isNamed (rowOf (flatOf step .code)) 8 ≡ false → Handle step
+
 pub record Deed (step : Step) : Type 0 where
   pub objects : Objects step
   pub generation : Generation step
   pub marks : Marks step
   pub clock : Clock step
   pub goes : Goes step
+  pub handle : Handle step
 
 -- at home a message may give the passage another status, and no other generation
 home-generation : (b : Bool) (x y : Passage) (g : ℕ) → x .generation ≡ g → y .generation ≡ g → cond b x y .generation ≡ g
@@ -106,6 +119,7 @@ deedOf (Step.Tick site n) =
       marks = Marks.Stay _ (λ place rest seen. same (λ s. s .visit .there) _ _ seen _ refl) (λ place rest seen. same (λ s. s .visit .prepared) _ _ seen _ refl);
       clock = Clock.Ticks site n;
       goes = Goes.Nowhere _ refl;
+      handle = Handle.Nameless _ refl;
     }
 deedOf (Step.Begin home slot q r) =
     record {
@@ -114,6 +128,7 @@ deedOf (Step.Begin home slot q r) =
       marks = Marks.Begins home slot q r;
       clock = Clock.Moves _ refl (λ place rest seen e. settled-accepted (λ s. s .site .clock ≡ seen .site .clock + 1) _ _ seen _ (λ f. refl) e);
       goes = Goes.Nowhere _ refl;
+      handle = Handle.Nameless _ refl;
     }
 deedOf (Step.Invoke h site write object value) =
     record {
@@ -122,6 +137,7 @@ deedOf (Step.Invoke h site write object value) =
       marks = Marks.Stay _ (λ place rest seen. same (λ s. s .visit .there) _ _ seen _ refl) (λ place rest seen. same (λ s. s .visit .prepared) _ _ seen _ refl);
       clock = Clock.Moves _ refl (λ place rest seen e. settled-accepted (λ s. s .site .clock ≡ seen .site .clock + 1) _ _ seen _ (λ f. refl) e);
       goes = Goes.Nowhere _ refl;
+      handle = Handle.Named _ refl (λ place rest seen e. accepted-fine _ _ e .found);
     }
 deedOf (Step.Refresh h q r) =
     record {
@@ -130,6 +146,7 @@ deedOf (Step.Refresh h q r) =
       marks = Marks.Stay _ (λ place rest seen. same (λ s. s .visit .there) _ _ seen _ refl) (λ place rest seen. same (λ s. s .visit .prepared) _ _ seen _ refl);
       clock = Clock.Moves _ refl (λ place rest seen e. settled-accepted (λ s. s .site .clock ≡ seen .site .clock + 1) _ _ seen _ (λ f. refl) e);
       goes = Goes.Nowhere _ refl;
+      handle = Handle.Named _ refl (λ place rest seen e. accepted-fine _ _ e .found);
     }
 deedOf (Step.Terminate h) =
     record {
@@ -138,6 +155,7 @@ deedOf (Step.Terminate h) =
       marks = Marks.Terminates h;
       clock = Clock.Moves _ refl (λ place rest seen e. settled-accepted (λ s. s .site .clock ≡ seen .site .clock + 1) _ _ seen _ (λ f. refl) e);
       goes = Goes.Nowhere _ refl;
+      handle = Handle.Named _ refl (λ place rest seen e. accepted-fine _ _ e .found);
     }
 deedOf (Step.Prepare h) =
     record {
@@ -146,6 +164,7 @@ deedOf (Step.Prepare h) =
       marks = Marks.Prepares h;
       clock = Clock.Moves _ refl (λ place rest seen e. settled-accepted (λ s. s .site .clock ≡ seen .site .clock + 1) _ _ seen _ (λ f. refl) e);
       goes = Goes.Nowhere _ refl;
+      handle = Handle.Named _ refl (λ place rest seen e. accepted-fine _ _ e .found);
     }
 deedOf (Step.Ask h site) =
     record {
@@ -154,6 +173,7 @@ deedOf (Step.Ask h site) =
       marks = Marks.Stay _ (λ place rest seen. same (λ s. s .visit .there) _ _ seen _ refl) (λ place rest seen. same (λ s. s .visit .prepared) _ _ seen _ refl);
       clock = Clock.Moves _ refl (λ place rest seen e. settled-accepted (λ s. s .site .clock ≡ seen .site .clock + 1) _ _ seen _ (λ f. refl) e);
       goes = Goes.Nowhere _ refl;
+      handle = Handle.Named _ refl (λ place rest seen e. accepted-fine _ _ e .found);
     }
 deedOf (Step.Close h) =
     record {
@@ -162,6 +182,7 @@ deedOf (Step.Close h) =
       marks = Marks.Closes h;
       clock = Clock.Moves _ refl (λ place rest seen e. settled-accepted (λ s. s .site .clock ≡ seen .site .clock + 1) _ _ seen _ (λ f. refl) e);
       goes = Goes.Nowhere _ refl;
+      handle = Handle.Named _ refl (λ place rest seen e. accepted-fine _ _ e .found);
     }
 deedOf (Step.Tell h site) =
     record {
@@ -170,6 +191,7 @@ deedOf (Step.Tell h site) =
       marks = Marks.Stay _ (λ place rest seen. same (λ s. s .visit .there) _ _ seen _ refl) (λ place rest seen. same (λ s. s .visit .prepared) _ _ seen _ refl);
       clock = Clock.Moves _ refl (λ place rest seen e. settled-accepted (λ s. s .site .clock ≡ seen .site .clock + 1) _ _ seen _ (λ f. refl) e);
       goes = Goes.Nowhere _ refl;
+      handle = Handle.Named _ refl (λ place rest seen e. accepted-fine _ _ e .found);
     }
 deedOf (Step.Abort h) =
     record {
@@ -178,6 +200,7 @@ deedOf (Step.Abort h) =
       marks = Marks.Aborts h;
       clock = Clock.Moves _ refl (λ place rest seen e. settled-accepted (λ s. s .site .clock ≡ seen .site .clock + 1) _ _ seen _ (λ f. refl) e);
       goes = Goes.Nowhere _ refl;
+      handle = Handle.Named _ refl (λ place rest seen e. accepted-fine _ _ e .found);
     }
 deedOf (Step.Deliver m) =
     record {
@@ -186,6 +209,7 @@ deedOf (Step.Deliver m) =
       marks = Marks.Delivers m;
       clock = Clock.Delivers m;
       goes = Goes.Nowhere _ refl;
+      handle = Handle.Nameless _ refl;
     }
 deedOf (Step.Drop m) =
     record {
@@ -194,6 +218,7 @@ deedOf (Step.Drop m) =
       marks = Marks.Stay _ (λ place rest seen. same (λ s. s .visit .there) _ _ seen _ refl) (λ place rest seen. same (λ s. s .visit .prepared) _ _ seen _ refl);
       clock = Clock.Rests _ refl (λ place rest seen. same (λ s. s .site) _ _ seen _ refl);
       goes = Goes.Nowhere _ refl;
+      handle = Handle.Nameless _ refl;
     }
 deedOf (Step.Sweep site) =
     record {
@@ -202,6 +227,7 @@ deedOf (Step.Sweep site) =
       marks = Marks.Stay _ (λ place rest seen. same (λ s. s .visit .there) _ _ seen _ refl) (λ place rest seen. same (λ s. s .visit .prepared) _ _ seen _ refl);
       clock = Clock.Moves _ refl (λ place rest seen e. settled-accepted (λ s. s .site .clock ≡ seen .site .clock + 1) _ _ seen _ (λ f. refl) e);
       goes = Goes.Sweeps site;
+      handle = Handle.Nameless _ refl;
     }
 deedOf (Step.Crash site) =
     record {
@@ -210,6 +236,7 @@ deedOf (Step.Crash site) =
       marks = Marks.Stay _ (λ place rest seen. same (λ s. s .visit .there) _ _ seen _ refl) (λ place rest seen. same (λ s. s .visit .prepared) _ _ seen _ refl);
       clock = Clock.Moves _ refl (λ place rest seen e. settled-accepted (λ s. s .site .clock ≡ seen .site .clock + 1) _ _ seen _ (λ f. refl) e);
       goes = Goes.Crashes site;
+      handle = Handle.Nameless _ refl;
     }
 deedOf (Step.Recover site) =
     record {
@@ -218,6 +245,7 @@ deedOf (Step.Recover site) =
       marks = Marks.Stay _ (λ place rest seen. same (λ s. s .visit .there) _ _ seen _ refl) (λ place rest seen. same (λ s. s .visit .prepared) _ _ seen _ refl);
       clock = Clock.Moves _ refl (λ place rest seen e. settled-accepted (λ s. s .site .clock ≡ seen .site .clock + 1) _ _ seen _ (λ f. refl) e);
       goes = Goes.Nowhere _ refl;
+      handle = Handle.Nameless _ refl;
     }
 deedOf (Step.Retire h) =
     record {
@@ -226,4 +254,5 @@ deedOf (Step.Retire h) =
       marks = Marks.Stay _ (λ place rest seen. same (λ s. s .visit .there) _ _ seen _ refl) (λ place rest seen. same (λ s. s .visit .prepared) _ _ seen _ refl);
       clock = Clock.Rests _ refl (λ place rest seen. same (λ s. s .site) _ _ seen _ refl);
       goes = Goes.Nowhere _ refl;
+      handle = Handle.Named _ refl (λ place rest seen e. accepted-fine _ _ e .found);
     }

@@ -10,7 +10,7 @@ use borrow.Author.Tests.{eqb-true, eq-eqb, ne-eqb, ltb-false}
 use Rattle.rules.specs.declared.answers.Trip.{Trip}
 use Rattle.rules.specs.declared.answers.Check.{Check}
 use Rattle.rules.specs.Loops.{oneIf}
-use Rattle.rules.specs.LoopsLaws.{either, or-left, or-right, not-false, cond-keeps}
+use Rattle.rules.specs.LoopsLaws.{either, or-left, or-right, not-false, cond-keeps, and-right}
 use Rattle.rules.specs.Tables.{start, passageAt, slotOf, generationOf, handleOf, freeSlot, pastPassage}
 use Rattle.rules.specs.Ranges.{inRange}
 use Rattle.rules.specs.Answers.{isAccepted, answerValue, firstOf, settleOf}
@@ -28,7 +28,7 @@ use Rattle.rules.specs.RangesKept.{turn-count-most}
 use Rattle.rules.specs.RefusedLaws.{refused-leaves}
 use Rattle.rules.specs.Record.{rowOf, isNamed, flatOf, isStep}
 use Rattle.rules.specs.Runs.{Entry, runOf, entryOf, entriesOf, historyOf}
-use Rattle.rules.specs.Views.{Generation, deedOf}
+use Rattle.rules.specs.Views.{Generation, Handle, deedOf}
 use Rattle.runs.specs.Types.{Passage, Body, Tables, Step, Places, Seen, Outcome}
 use Rattle.runs.specs.Put.{same-or-other}
 use Rattle.runs.specs.Steps.{head-accepted, run-on}
@@ -245,27 +245,21 @@ module _ (t : Tables) (h : ℕ) (old : generationAt t (slotOf h) ≢ generationO
       let q : g ≡ h = eqb-true g h e in
       old (subst (λ (x : ℕ). generationAt t (slotOf x) ≡ generationOf x) q (eqb-true _ _ (not-false _ (or-right (isFree (passageAt t (slotOf g) .status)) _ f))))
 
+  named-apart :
+      (step : Step) (place : ℕ) (rest : Bool) → Handle step → names h step ≡ true
+      → isAccepted (decideOf step place rest (seenOf t (placesOf t (lookOf step))) .answer) ≡ true
+      → ⊥
+  unfolding placesOf
+  named-apart _ place rest (Handle.Named step slot found) e a =
+      let f = found place rest (seenOf t (placesOf t (lookOf step))) a in
+      told-apart (flatOf step .h) (and-right (isNamed (rowOf (flatOf step .code)) 8) (eqb (flatOf step .h) h) e) (rw slot at f)
+  named-apart _ place rest (Handle.Nameless step none) e a = false≢true (rw none at e)
+
   decided-apart :
       (step : Step) → names h step ≡ true
       → isAccepted (decideOf step (placesOf t (lookOf step) .message) (remains t (placesOf t (lookOf step) .slot)) (seenOf t (placesOf t (lookOf step))) .answer) ≡ true
       → ⊥
-  unfolding placesOf decideOf abortOf retireOf refreshOf terminateOf prepareOf openOf askOf closeOf tellOf invokeOf
-  decided-apart (Step.Tick site n) e a = false≢true e
-  decided-apart (Step.Begin home slot q r) e a = false≢true e
-  decided-apart (Step.Invoke g site write object value) e a = told-apart g e (accepted-fine _ _ a .found)
-  decided-apart (Step.Refresh g q r) e a = told-apart g e (accepted-fine _ _ a .found)
-  decided-apart (Step.Terminate g) e a = told-apart g e (accepted-fine _ _ a .found)
-  decided-apart (Step.Prepare g) e a = told-apart g e (accepted-fine _ _ a .found)
-  decided-apart (Step.Ask g site) e a = told-apart g e (accepted-fine _ _ a .found)
-  decided-apart (Step.Close g) e a = told-apart g e (accepted-fine _ _ a .found)
-  decided-apart (Step.Tell g site) e a = told-apart g e (accepted-fine _ _ a .found)
-  decided-apart (Step.Abort g) e a = told-apart g e (accepted-fine _ _ a .found)
-  decided-apart (Step.Deliver m) e a = false≢true e
-  decided-apart (Step.Drop m) e a = false≢true e
-  decided-apart (Step.Sweep site) e a = false≢true e
-  decided-apart (Step.Crash site) e a = false≢true e
-  decided-apart (Step.Recover site) e a = false≢true e
-  decided-apart (Step.Retire g) e a = told-apart g e (accepted-fine _ _ a .found)
+  decided-apart step = named-apart step _ _ (deedOf step .handle)
 
   head-apart : (step : Step) → names h step ≡ true → isAccepted (headOf t step .answer) ≡ true → ⊥
   unfolding headOf
