@@ -2,10 +2,10 @@
 use Prim.Native.Nat.{ℕ, _+_}
 use mathlib.Core.Path.{_≡_, refl}
 use mathlib.Core.Logic.{⊎-elim}
-use mathlib.Core.Bool.{Bool, true, false, cond, not, _||_}
+use mathlib.Core.Bool.{Bool, true, false, cond, not, _||_, true≢false}
 use mathlib.Core.List.{List}
 use lib.Dec.{eqb}
-use Rattle.rules.specs.Types.{Passage, Body, Step, Check, SlotAt, Trip, Seen}
+use Rattle.rules.specs.Types.{Passage, Call, Asked, Told, Body, Step, Check, SlotAt, Trip, Seen}
 use Rattle.rules.specs.Tables.{generationOf}
 use Rattle.rules.specs.Parts.{isFree}
 use Rattle.rules.specs.Answers.{isAccepted, firstOf, settleOf}
@@ -14,7 +14,7 @@ use Rattle.rules.specs.AnswersLaws.{Fine, accepted-fine}
 use Rattle.rules.specs.Stations.{tickOf, sweepOf, crashOf, recoverOf}
 use Rattle.rules.specs.Passages.{beginOf, abortOf, retireOf}
 use Rattle.rules.specs.Rounds.{openOf, refreshOf, terminateOf, prepareOf, askOf, closeOf, tellOf}
-use Rattle.rules.specs.Calls.{atHome, invokeOf, emptyOf, deliverCallOf, deliverPhaseOneOf, deliverPhaseTwoOf, deliverAnswerOf, deliverBodyOf, dropOf}
+use Rattle.rules.specs.Calls.{atHome, mailClock, invokeOf, emptyOf, deliverCallOf, deliverPhaseOneOf, deliverPhaseTwoOf, deliverAnswerOf, deliverBodyOf, dropOf}
 use Rattle.rules.specs.Machine.{lookOf, decideOf}
 use Rattle.rules.specs.Record.{rowOf, isNamed, flatOf, isStep}
 use Rattle.rules.specs.Runs.{actsAtSite}
@@ -40,7 +40,7 @@ Leaves part step = (place : ℕ) (rest : Bool) (seen : Seen) → part (decideOf 
 same : {A : Type 0} (part : Seen → A) (cs : List Check) (v : ℕ) (seen left : Seen) → part left ≡ part seen → part (settleOf (record { answer = firstOf cs v; left = left }) seen .left) ≡ part seen
 same part cs v seen left e = settled (λ x. part x ≡ part seen) cs v seen left (λ f. e) refl
 
--- ---- the views
+-- ---- the views of a step
 
 -- of the objects: a close and a delivery may change them
 pub data Objects : Step → Type 0 where
@@ -63,10 +63,22 @@ pub data Marks : Step → Type 0 where
   Delivers : (m : ℕ) → Marks (Step.Deliver m)
   Stay : (step : Step) → Leaves (λ s. s .visit .there) step → Leaves (λ s. s .visit .prepared) step → Marks step
 
+-- of what a delivered message brings: a call, a round's question, its word; an answer leaves objects and visits, and an empty slot everything
+pub data Mail : Body → Type 0 where
+  Calls : (c : Call) → Mail (Body.Call c)
+  Asks : (n : ℕ) (asked : Asked) → Mail (Body.PhaseOne n asked)
+  Tells : (n : ℕ) (told : Told) → Mail (Body.PhaseTwo n told)
+  Quiet :
+      (body : Body) → ((m : ℕ) (seen : Seen) → deliverBodyOf body m seen .left .objects ≡ seen .objects)
+      → ((m : ℕ) (seen : Seen) → deliverBodyOf body m seen .left .visit ≡ seen .visit)
+      → Mail body
+
 -- of the site's clock: a tick moves it by its number, a delivery past the message's stamp, any other step that acts by 1
 pub data Clock : Step → Type 0 where
   Ticks : (site n : ℕ) → Clock (Step.Tick site n)
-  Delivers : (m : ℕ) → Clock (Step.Deliver m)
+  Delivers :
+      (m : ℕ) → ((place : ℕ) (rest : Bool) (seen : Seen) → isAccepted (decideOf (Step.Deliver m) place rest seen .answer) ≡ true → decideOf (Step.Deliver m) place rest seen .left .site .clock ≡ mailClock seen)
+      → Clock (Step.Deliver m)
   Moves :
       (step : Step) → actsAtSite step ≡ true
       → ((place : ℕ) (rest : Bool) (seen : Seen) → isAccepted (decideOf step place rest seen .answer) ≡ true → decideOf step place rest seen .left .site .clock ≡ seen .site .clock + 1)
@@ -95,6 +107,27 @@ pub record Deed (step : Step) : Type 0 where
   pub clock : Clock step
   pub goes : Goes step
   pub handle : Handle step
+
+-- ---- deliveries, by what the slot holds
+
+pub mailOf : (body : Body) → Mail body
+unfolding deliverBodyOf emptyOf deliverAnswerOf
+mailOf Body.Empty = Mail.Quiet _ (λ m seen. same (λ s. s .objects) _ _ seen _ refl) (λ m seen. same (λ s. s .visit) _ _ seen _ refl)
+mailOf (Body.Call c) = Mail.Calls c
+mailOf (Body.PhaseOne n asked) = Mail.Asks n asked
+mailOf (Body.PhaseTwo n told) = Mail.Tells n told
+mailOf (Body.Answer n r q) = Mail.Quiet _ (λ m seen. same (λ s. s .objects) _ _ seen _ refl) (λ m seen. same (λ s. s .visit) _ _ seen _ refl)
+
+-- an empty slot is refused; any other message moves the clock past its stamp
+delivered-clock :
+    (body : Body) (m : ℕ) (seen : Seen) → seen .message .body ≡ body → isAccepted (deliverBodyOf body m seen .answer) ≡ true
+    → deliverBodyOf body m seen .left .site .clock ≡ mailClock seen
+unfolding deliverBodyOf emptyOf deliverCallOf deliverPhaseOneOf deliverPhaseTwoOf deliverAnswerOf
+delivered-clock Body.Empty m seen b e = settled-accepted (λ s. s .site .clock ≡ mailClock seen) _ _ seen _ (λ f. absurd (true≢false (rw b at (f .found)))) e
+delivered-clock (Body.Call c) m seen b e = settled-accepted (λ s. s .site .clock ≡ mailClock seen) _ _ seen _ (λ f. refl) e
+delivered-clock (Body.PhaseOne n a) m seen b e = settled-accepted (λ s. s .site .clock ≡ mailClock seen) _ _ seen _ (λ f. refl) e
+delivered-clock (Body.PhaseTwo n d) m seen b e = settled-accepted (λ s. s .site .clock ≡ mailClock seen) _ _ seen _ (λ f. refl) e
+delivered-clock (Body.Answer n r q) m seen b e = settled-accepted (λ s. s .site .clock ≡ mailClock seen) _ _ seen _ (λ f. refl) e
 
 -- at home a message may give the passage another status, and no other generation
 home-generation : (b : Bool) (x y : Passage) (g : ℕ) → x .generation ≡ g → y .generation ≡ g → cond b x y .generation ≡ g
@@ -207,7 +240,7 @@ deedOf (Step.Deliver m) =
       objects = Objects.Delivers m;
       generation = Generation.Stays _ refl (λ place rest seen. delivered-generation (seen .message .body) m seen);
       marks = Marks.Delivers m;
-      clock = Clock.Delivers m;
+      clock = Clock.Delivers m (λ place rest seen e. delivered-clock (seen .message .body) m seen refl e);
       goes = Goes.Nowhere _ refl;
       handle = Handle.Nameless _ refl;
     }

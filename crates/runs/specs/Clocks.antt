@@ -45,19 +45,6 @@ tick-adds site n seen =
     let d : n ≡ 0 → ⊥ = eqb-false n 0 (or-right (badSite site) _ (or-left (badSite site || eqb n 0) (ltb tickMost n) (f .fields))) in
     omega (arith, d)
 
--- an empty slot is refused; any other message moves the clock
-deliver-adds :
-    (body : Body) (m : ℕ) (seen : Seen) → seen .message .body ≡ body
-    → isAccepted (deliverBodyOf body m seen .answer) ≡ true
-    → Grown seen (deliverBodyOf body m seen .left)
-unfolding deliverBodyOf emptyOf deliverCallOf deliverPhaseOneOf deliverPhaseTwoOf deliverAnswerOf
-deliver-adds Body.Empty m seen b e =
-    settled-accepted (Grown seen) _ _ seen seen (λ f. absurd (true≢false (rw b at (f .found)))) e
-deliver-adds (Body.Call c) m seen b e = settled-accepted (Grown seen) _ _ seen _ (λ f. omega arith) e
-deliver-adds (Body.PhaseOne n a) m seen b e = settled-accepted (Grown seen) _ _ seen _ (λ f. omega arith) e
-deliver-adds (Body.PhaseTwo n d) m seen b e = settled-accepted (Grown seen) _ _ seen _ (λ f. omega arith) e
-deliver-adds (Body.Answer n r q) m seen b e = settled-accepted (Grown seen) _ _ seen _ (λ f. omega arith) e
-
 -- an accepted step that acts at its site moves its clock
 acted-adds :
     (step : Step) (place : ℕ) (rest : Bool) (seen : Seen) → Clock step → actsAtSite step ≡ true
@@ -65,7 +52,7 @@ acted-adds :
     → Grown seen (decideOf step place rest seen .left)
 unfolding decideOf
 acted-adds _ place rest seen (Clock.Ticks site n) a e = tick-adds site n seen e
-acted-adds _ place rest seen (Clock.Delivers m) a e = deliver-adds (seen .message .body) m seen refl e
+acted-adds _ place rest seen (Clock.Delivers m moves) a e = omega (arith, moves place rest seen e)
 acted-adds _ place rest seen (Clock.Moves step b moves) a e = omega (arith, moves place rest seen e)
 acted-adds _ place rest seen (Clock.Rests step b stays) a e = absurd (true≢false (sym a ∙ b))
 
@@ -78,7 +65,7 @@ decided-adds step place rest seen = acted-adds step place rest seen (deedOf step
 -- drop and retire leave the site
 idle-site : (step : Step) (place : ℕ) (rest : Bool) (seen : Seen) → Clock step → actsAtSite step ≡ false → decideOf step place rest seen .left .site ≡ seen .site
 idle-site _ place rest seen (Clock.Ticks site n) a = absurd (true≢false a)
-idle-site _ place rest seen (Clock.Delivers m) a = absurd (true≢false a)
+idle-site _ place rest seen (Clock.Delivers m moves) a = absurd (true≢false a)
 idle-site _ place rest seen (Clock.Moves step b moves) a = absurd (true≢false (sym b ∙ a))
 idle-site _ place rest seen (Clock.Rests step b stays) a = stays place rest seen
 

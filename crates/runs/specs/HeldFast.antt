@@ -27,7 +27,7 @@ use Rattle.rules.specs.StoredLaws.{Sized, Placed, visit-after-stored}
 use Rattle.rules.specs.RangesLaws.{placed-places, placed-slots}
 use Rattle.rules.specs.RangesKept.{turn-count-most}
 use Rattle.rules.specs.Runs.{runOf}
-use Rattle.rules.specs.Views.{settled, Objects, deedOf}
+use Rattle.rules.specs.Views.{settled, Objects, Mail, mailOf, deedOf}
 use Rattle.runs.specs.Types.{Visit, Call, Told, Body, Tables, Step, Places, Seen, Outcome}
 use Rattle.runs.specs.Put.{same-or-other}
 use Rattle.runs.specs.Steps.{run-on}
@@ -133,15 +133,14 @@ module _ (t : Tables) (at : Places) where
             (same-or-other i (c .object % 4));
       }
 
-  delivered-fast :
-      (body : Body) (m : ℕ) → at .slot ≡ mailSlot (seenOf t at) → at .bank ≡ bodyBank body (at .site)
+  mail-fast :
+      (body : Body) (m : ℕ) → Mail body → at .slot ≡ mailSlot (seenOf t at) → at .bank ≡ bodyBank body (at .site)
       → Fast t at (deliverBodyOf body m (seenOf t at) .left)
-  unfolding deliverBodyOf emptyOf deliverCallOf deliverPhaseOneOf deliverPhaseTwoOf deliverAnswerOf
-  delivered-fast Body.Empty m s b = settled-fast _ _ _ (same-fast (seenOf t at) refl)
-  delivered-fast (Body.Call c) m s b = settled-fast _ _ _ (called-fast c _)
-  delivered-fast (Body.PhaseOne n a) m s b = settled-fast _ _ _ (same-fast _ refl)
-  delivered-fast (Body.PhaseTwo n told) m s b = settled-fast _ _ _ (told-fast told _ refl (rw s) b)
-  delivered-fast (Body.Answer n r q) m s b = settled-fast _ _ _ (same-fast _ refl)
+  unfolding deliverBodyOf deliverCallOf deliverPhaseOneOf deliverPhaseTwoOf
+  mail-fast _ m (Mail.Calls c) s b = settled-fast _ _ _ (called-fast c _)
+  mail-fast _ m (Mail.Asks n asked) s b = settled-fast _ _ _ (same-fast _ refl)
+  mail-fast _ m (Mail.Tells n told) s b = settled-fast _ _ _ (told-fast told _ refl (rw s) b)
+  mail-fast _ m (Mail.Quiet body objects visit) s b = same-fast _ (objects m (seenOf t at))
 
   -- one slot of a sweep, and one of a crash
   swept-fast : (site : ℕ) → at .bank ≡ at .site → Fast t at (sweptSlot site (at .slot) (seenOf t at))
@@ -161,7 +160,7 @@ seen-fast :
     → Fast t (placesOf t (lookOf step)) (decideOf step place rest (seenOf t (placesOf t (lookOf step))) .left)
 unfolding placesOf decideOf
 seen-fast t _ place rest (Objects.Closes h) = close-fast t _ h refl refl
-seen-fast t _ place rest (Objects.Delivers m) = delivered-fast t _ _ m refl refl
+seen-fast t _ place rest (Objects.Delivers m) = mail-fast t _ _ m (mailOf _) refl refl
 seen-fast t _ place rest (Objects.Stay step c d stay) = same-fast t _ _ (stay place rest (seenOf t (placesOf t (lookOf step))))
 
 decided-fast :

@@ -26,11 +26,11 @@ use Rattle.rules.specs.RangesKept.{turn-count-most}
 use Rattle.rules.specs.RefusedLaws.{refused-leaves}
 use Rattle.rules.specs.Record.{flatOf, isStep}
 use Rattle.rules.specs.Runs.{runOf}
-use Rattle.rules.specs.Views.{settled, Marks, deedOf}
+use Rattle.rules.specs.Views.{settled, Marks, Mail, mailOf, deedOf}
 use Rattle.runs.specs.Types.{Kind, Visit, Told, Body, Message, Tables, Step, Places, Seen, Outcome}
 use Rattle.runs.specs.Put.{same-or-other}
 use Rattle.runs.specs.TimesKept.{asked-says}
-use Rattle.runs.specs.Rests.{isPrepare, carriesCommit}
+use Rattle.runs.specs.Rests.{isPrepare, tellsPrepare, carriesCommit}
 use Rattle.runs.specs.Sizes.{sized-run, sized-head, sized-turn}
 
 -- ---- definitions
@@ -85,19 +85,21 @@ closed-there (Kind.Refresh q r) m v e f = e
 closed-there Kind.Terminate m v e f = e
 closed-there Kind.Prepare m v e f = absurd (true≢false f)
 
-delivered-there :
-    (body : Body) (m : ℕ) (seen : Seen) → seen .visit .there ≡ true → carriesCommit body ≡ false
+told-there : (told : Told) (v : Visit) → v .there ≡ true → tellsPrepare told ≡ false → toldVisit told v .there ≡ true
+told-there (Told.Refresh q) v e f = e
+told-there (Told.Terminate m) v e f = e
+told-there Told.Prepare v e f = absurd (true≢false f)
+
+mail-there :
+    (body : Body) (m : ℕ) (seen : Seen) → Mail body → seen .visit .there ≡ true → carriesCommit body ≡ false
     → deliverBodyOf body m seen .left .visit .there ≡ true
-unfolding deliverBodyOf emptyOf deliverCallOf deliverPhaseOneOf deliverPhaseTwoOf deliverAnswerOf
-delivered-there Body.Empty m seen e f = settled-firm Trip.Nowhere _ _ seen seen e e
-delivered-there (Body.Call c) m seen e f =
+unfolding deliverBodyOf deliverCallOf deliverPhaseOneOf deliverPhaseTwoOf
+mail-there _ m seen (Mail.Calls c) e f =
     settled-firm Trip.Nowhere _ _ seen _ (cond-keeps (λ (v : Visit). v .there ≡ true) (seen .visit .there) (seen .visit) _ e refl) e
-delivered-there (Body.PhaseOne n a) m seen e f =
-    settled-firm Trip.Nowhere _ _ seen _ (asked-says a n _ (seen .visit) .there ∙ e) e
-delivered-there (Body.PhaseTwo n (Told.Refresh q)) m seen e f = settled-firm Trip.Nowhere _ _ seen _ e e
-delivered-there (Body.PhaseTwo n (Told.Terminate x)) m seen e f = settled-firm Trip.Nowhere _ _ seen _ e e
-delivered-there (Body.PhaseTwo n Told.Prepare) m seen e f = absurd (true≢false f)
-delivered-there (Body.Answer n r q) m seen e f = settled-firm Trip.Nowhere _ _ seen _ e e
+mail-there _ m seen (Mail.Asks n asked) e f =
+    settled-firm Trip.Nowhere _ _ seen _ (asked-says asked n _ (seen .visit) .there ∙ e) e
+mail-there _ m seen (Mail.Tells n told) e f = settled-firm Trip.Nowhere _ _ seen _ (told-there told (seen .visit) e f) e
+mail-there _ m seen (Mail.Quiet body objects visit) e f = ap (λ (v : Visit). v .there) (visit m seen) ∙ e
 
 -- at its own slot and site, a step that is no word
 pub word-here : (a b : ℕ) (c : Bool) → (eqb a a && eqb b b && c) ≡ false → c ≡ false
@@ -123,10 +125,11 @@ marked-firm t _ place rest (Marks.Closes h) k f =
     (k .there)
 marked-firm t _ place rest (Marks.Aborts h) k f = settled-firm Trip.Nowhere _ _ _ _ (changed-there _ _ (k .there) (k .there)) (k .there)
 marked-firm t _ place rest (Marks.Delivers m) k f =
-    delivered-there
+    mail-there
     (messageAt t (m % 32) .body)
     m
     _
+    (mailOf (messageAt t (m % 32) .body))
     (k .there)
     (word-here (slotOf (messageAt t (m % 32) .handle)) (messageAt t (m % 32) .destination % 8) _ f)
 marked-firm t _ place rest (Marks.Stay step there prepared) k f =

@@ -23,7 +23,7 @@ use Rattle.rules.specs.Rounds.{refreshOf, terminateOf, prepareOf, openOf, askOf
 use Rattle.rules.specs.Calls.{mailClock, mailSlot, calledObject, called, invokeOf, emptyOf, deliverCallOf, deliverPhaseOneOf, deliverPhaseTwoOf, deliverAnswerOf, deliverBodyOf, dropOf}
 use Rattle.rules.specs.Machine.{lookOf, placesOf, seenOf, decideOf, stored, headOf, slotPlaces, sweepTurn, crashTurn, turnOf, turnsUpTo, turnCount, stepInRangeOf, stepOf}
 use Rattle.rules.specs.StoredLaws.{Sized, Placed}
-use Rattle.rules.specs.Views.{settled, Objects, deedOf}
+use Rattle.rules.specs.Views.{settled, Objects, Mail, mailOf, deedOf}
 use Rattle.runs.specs.Types.{Kind, Call, Told, Body, Tables, Step, Outcome, Places, Seen}
 use Rattle.runs.specs.Put.{same-or-other}
 use Rattle.runs.specs.Banks.{seen-object, object-after-stored, object-after-stored-other, each-at}
@@ -47,12 +47,6 @@ settled-stand :
     → AllStand commit (seen .objects) (settleOf (record { answer = firstOf cs v; left = left }) seen .left .objects)
 settled-stand commit cs v seen left h =
     settled (λ (x : Seen). AllStand commit (seen .objects) (x .objects)) cs v seen left (λ g. h) (same-stand commit (seen .objects) (seen .objects) refl)
-
--- a step that leaves the objects
-idle-stand :
-    (cs : List Check) (v : ℕ) (seen left : Seen) → left .objects ≡ seen .objects
-    → AllStand false (seen .objects) (settleOf (record { answer = firstOf cs v; left = left }) seen .left .objects)
-idle-stand cs v seen left e = settled-stand false cs v seen left (same-stand false (seen .objects) (left .objects) e)
 
 -- a delivered call saves the value before, once
 called-stand : (c : Call) (clock : ℕ) (seen : Seen) → AllStand false (seen .objects) (called c clock seen .objects)
@@ -107,22 +101,21 @@ close-stand h seen =
     (told-commits (seen .passage .round .kind) (largestQuiesce (seen .passage .round)))
     (closed-stand (roundTold (seen .passage .round)) (slotOf h) (nextClock (seen .site)) seen))
 
-deliver-stand :
-    (body : Body) (m : ℕ) (seen : Seen) → AllStand (carriesCommit body) (seen .objects) (deliverBodyOf body m seen .left .objects)
-unfolding deliverBodyOf emptyOf deliverCallOf deliverPhaseOneOf deliverPhaseTwoOf deliverAnswerOf
-deliver-stand Body.Empty m seen = idle-stand _ _ seen seen refl
-deliver-stand (Body.Call c) m seen = settled-stand false _ _ seen _ (called-stand c (mailClock seen) seen)
-deliver-stand (Body.PhaseOne n asked) m seen = idle-stand _ _ seen _ refl
-deliver-stand (Body.PhaseTwo n told) m seen =
+mail-stand :
+    (body : Body) (m : ℕ) (seen : Seen) → Mail body → AllStand (carriesCommit body) (seen .objects) (deliverBodyOf body m seen .left .objects)
+unfolding deliverBodyOf deliverCallOf deliverPhaseOneOf deliverPhaseTwoOf
+mail-stand _ m seen (Mail.Calls c) = settled-stand false _ _ seen _ (called-stand c (mailClock seen) seen)
+mail-stand _ m seen (Mail.Asks n asked) = settled-stand false _ _ seen _ (same-stand false (seen .objects) _ refl)
+mail-stand _ m seen (Mail.Tells n told) =
     settled-stand (tellsPrepare told) _ _ seen _ (told-stand told (mailSlot seen) (seen .objects))
-deliver-stand (Body.Answer n r q) m seen = idle-stand _ _ seen _ refl
+mail-stand _ m seen (Mail.Quiet body objects visit) = same-stand (carriesCommit body) (seen .objects) _ (objects m seen)
 
 seen-stand :
     (step : Step) (place : ℕ) (rest : Bool) (seen : Seen) → Objects step
     → AllStand (commits step seen) (seen .objects) (decideOf step place rest seen .left .objects)
 unfolding decideOf
 seen-stand _ place rest seen (Objects.Closes h) = close-stand h seen
-seen-stand _ place rest seen (Objects.Delivers m) = deliver-stand (seen .message .body) m seen
+seen-stand _ place rest seen (Objects.Delivers m) = mail-stand (seen .message .body) m seen (mailOf (seen .message .body))
 seen-stand _ place rest seen (Objects.Stay step c d stay) = same-stand (commits step seen) (seen .objects) _ (stay place rest seen)
 
 decided-stand :

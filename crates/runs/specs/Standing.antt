@@ -15,7 +15,7 @@ use Rattle.rules.specs.Tables.{start, objectAt, passageAt, visitAt, messageAt, 
 use Rattle.rules.specs.Ranges.{inRange}
 use Rattle.rules.specs.Answers.{isAccepted, firstOf, settleOf}
 use Rattle.rules.specs.AnswersLaws.{Fine, accepted-fine}
-use Rattle.rules.specs.Parts.{isFree, abortedPassage, whereThere, toldOf, toldVisit}
+use Rattle.rules.specs.Parts.{isFree, abortedPassage, whereThere, toldOf, toldVisit, askedVisit}
 use Rattle.rules.specs.Stations.{tickOf, sweepOf, crashChecks, crashOf, losesHome, crashedSlot, recoverOf}
 use Rattle.rules.specs.Passages.{beginOf, abortOf, retireOf}
 use Rattle.rules.specs.Rounds.{openOf, refreshOf, terminateOf, prepareOf, askOf, closeOf, tellOf}
@@ -27,27 +27,30 @@ use Rattle.rules.specs.RangesKept.{turn-count-most}
 use Rattle.rules.specs.RefusedLaws.{refused-leaves}
 use Rattle.rules.specs.Record.{flatOf, isStep}
 use Rattle.rules.specs.Runs.{runOf}
-use Rattle.rules.specs.Views.{settled, Marks, Goes, deedOf}
+use Rattle.rules.specs.Views.{settled, Marks, Mail, mailOf, Goes, deedOf}
 use Rattle.runs.specs.Types.{Kind, Passage, Visit, Asked, Told, Body, Message, Tables, Step, Places, Seen, Outcome}
 use Rattle.runs.specs.Put.{same-or-other}
 use Rattle.runs.specs.LifeFits.{free-says}
 use Rattle.runs.specs.Steps.{run-on}
 use Rattle.runs.specs.Sizes.{sized-run, sized-head}
 use Rattle.runs.specs.RunLaws.{free-no-visit}
-use Rattle.runs.specs.Rests.{isPrepare, carriesCommit}
+use Rattle.runs.specs.Rests.{isPrepare, tellsPrepare, carriesCommit}
 use Rattle.runs.specs.Promised.{Promised, isWord, stored-has, prepared-not-swept, word-here}
 use Rattle.runs.specs.HeldFast.{let-go-with-visit}
 
 -- ---- definitions
 
 -- a message that asks to terminate
+abbrev pub isTerminate : Asked → Bool
+isTerminate (Asked.Refresh r) = false
+isTerminate Asked.Terminate = true
+isTerminate Asked.Prepare = false
+
 abbrev pub asksTerminate : Body → Bool
 asksTerminate Body.Empty = false
 asksTerminate (Body.Call c) = false
-asksTerminate (Body.PhaseOne n (Asked.Refresh r)) = false
-asksTerminate (Body.PhaseOne n Asked.Terminate) = true
-asksTerminate (Body.PhaseOne n Asked.Prepare) = false
-asksTerminate (Body.PhaseTwo n d) = false
+asksTerminate (Body.PhaseOne n asked) = isTerminate asked
+asksTerminate (Body.PhaseTwo n told) = false
 asksTerminate (Body.Answer n r q) = false
 
 -- does the step let the station off its promise to this slot? By the commit's last word (a close, code 8, or a delivery, code 11); by a terminate's first (code 5, or a delivery);
@@ -91,19 +94,24 @@ closed-stands (Kind.Refresh q r) m v e f = cond-keeps Stands (v .there) _ v e e
 closed-stands Kind.Terminate m v e f = cond-keeps Stands (v .there) _ v e e
 closed-stands Kind.Prepare m v e f = absurd (true≢false f)
 
-delivered-stands :
-    (body : Body) (m : ℕ) (seen : Seen) → Stands (seen .visit) → (carriesCommit body || asksTerminate body) ≡ false
+asked-stands : (asked : Asked) (n clock : ℕ) (v : Visit) → Stands v → isTerminate asked ≡ false → Stands (askedVisit asked n clock v)
+asked-stands (Asked.Refresh r) n clock v k f = k
+asked-stands Asked.Terminate n clock v k f = absurd (true≢false f)
+asked-stands Asked.Prepare n clock v k f = (k .0, refl)
+
+told-stands : (told : Told) (v : Visit) → Stands v → tellsPrepare told ≡ false → Stands (toldVisit told v)
+told-stands (Told.Refresh q) v k f = k
+told-stands (Told.Terminate m) v k f = k
+told-stands Told.Prepare v k f = absurd (true≢false f)
+
+mail-stands :
+    (body : Body) (m : ℕ) (seen : Seen) → Mail body → Stands (seen .visit) → (carriesCommit body || asksTerminate body) ≡ false
     → Stands (deliverBodyOf body m seen .left .visit)
-unfolding deliverBodyOf emptyOf deliverCallOf deliverPhaseOneOf deliverPhaseTwoOf deliverAnswerOf
-delivered-stands Body.Empty m seen k f = settled-stands _ _ seen seen (λ g. k) k
-delivered-stands (Body.Call c) m seen k f = settled-stands _ _ seen _ (λ g. rw (k .0) (refl, k .1)) k
-delivered-stands (Body.PhaseOne n (Asked.Refresh r)) m seen k f = settled-stands _ _ seen _ (λ g. k) k
-delivered-stands (Body.PhaseOne n Asked.Terminate) m seen k f = absurd (true≢false f)
-delivered-stands (Body.PhaseOne n Asked.Prepare) m seen k f = settled-stands _ _ seen _ (λ g. (k .0, refl)) k
-delivered-stands (Body.PhaseTwo n (Told.Refresh q)) m seen k f = settled-stands _ _ seen _ (λ g. k) k
-delivered-stands (Body.PhaseTwo n (Told.Terminate x)) m seen k f = settled-stands _ _ seen _ (λ g. k) k
-delivered-stands (Body.PhaseTwo n Told.Prepare) m seen k f = absurd (true≢false f)
-delivered-stands (Body.Answer n r q) m seen k f = settled-stands _ _ seen _ (λ g. k) k
+unfolding deliverBodyOf deliverCallOf deliverPhaseOneOf deliverPhaseTwoOf
+mail-stands _ m seen (Mail.Calls c) k f = settled-stands _ _ seen _ (λ g. rw (k .0) (refl, k .1)) k
+mail-stands _ m seen (Mail.Asks n asked) k f = settled-stands _ _ seen _ (λ g. asked-stands asked n _ (seen .visit) k f) k
+mail-stands _ m seen (Mail.Tells n told) k f = settled-stands _ _ seen _ (λ g. told-stands told (seen .visit) k (or-left (tellsPrepare told) false f)) k
+mail-stands _ m seen (Mail.Quiet body objects visit) k f = rw (visit m seen) k
 
 -- at its own slot and site a step of home lets off
 home-here : (a b : ℕ) → (eqb a a && eqb b b) ≡ false → ⊥
@@ -130,10 +138,11 @@ marked-stands t _ place rest (Marks.Closes h) k u f =
     k
 marked-stands t _ place rest (Marks.Aborts h) k u f = absurd (home-here (slotOf h) (passageAt t (slotOf h) .home % 8) f)
 marked-stands t _ place rest (Marks.Delivers m) k u f =
-    delivered-stands
+    mail-stands
     (messageAt t (m % 32) .body)
     m
     _
+    (mailOf (messageAt t (m % 32) .body))
     k
     (word-here (slotOf (messageAt t (m % 32) .handle)) (messageAt t (m % 32) .destination % 8) _ f)
 marked-stands t _ place rest (Marks.Stay step there prepared) k u f =
