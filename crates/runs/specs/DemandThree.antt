@@ -20,7 +20,7 @@ use Rattle.runs.specs.HeldStore.{Held}
 use Rattle.runs.specs.Holders.{held-run, held-step, held-from}
 use Rattle.runs.specs.Counted.{steps-drive}
 use Rattle.runs.specs.Swept.{Ripe, swept-away, swept-clock}
-use Rattle.runs.specs.Orphans.{beganCommit, isRetired, stepsAt, bodyLatest, bodyAll, mailLatest, latest, latestOfAll}
+use Rattle.runs.specs.Orphans.{beganCommit, isRetired, stepsAt, bodyLatest, bodyAll, mailLatest, latest, latestOfAll, toldQuiesce, toldTime}
 use Rattle.runs.specs.Watch.{Known, Plain, Bounded, Watch}
 use Rattle.runs.specs.WatchStore.{knownHead, knownTurn}
 use Rattle.runs.specs.WatchSteps.{knownNothing, watch-head, watch-run, watch-start}
@@ -75,15 +75,16 @@ most-less f g zero h = omega arith
 most-less f g (suc n) h =
     let a : mostUpTo f n ≤ mostUpTo g n = most-less f g n h in let b : f n ≤ g n = h n in omega arith
 
+told-less : (told : Told) → toldQuiesce told ≤ toldTime told
+told-less (Told.Refresh q) = omega arith
+told-less (Told.Terminate m) = omega arith
+told-less Told.Prepare = omega arith
+
 body-less : (b : Body) → bodyLatest b ≤ bodyAll b
 body-less Body.Empty = omega arith
 body-less (Body.Call c) = omega arith
-body-less (Body.PhaseOne n (Asked.Refresh r)) = omega arith
-body-less (Body.PhaseOne n Asked.Terminate) = omega arith
-body-less (Body.PhaseOne n Asked.Prepare) = omega arith
-body-less (Body.PhaseTwo n (Told.Refresh q)) = omega arith
-body-less (Body.PhaseTwo n (Told.Terminate m)) = omega arith
-body-less (Body.PhaseTwo n Told.Prepare) = omega arith
+body-less (Body.PhaseOne n asked) = omega arith
+body-less (Body.PhaseTwo n told) = told-less told
 body-less (Body.Answer n received q) = omega arith
 
 mail-less : (m : Message) (b : Bool) → cond b (bodyLatest (m .body)) 0 ≤ cond b (bodyAll (m .body)) 0

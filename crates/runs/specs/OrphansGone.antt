@@ -1,5 +1,5 @@
 -- What is known along a run is what the list of accepted steps says; at the moment no time of the passage is above T. Assumes nothing.
-use Prim.Native.Nat.{ℕ, zero, suc, _-_, _<_, _≤_, max}
+use Prim.Native.Nat.{ℕ, zero, suc, _-_, _<_, _≤_, max, zero-le}
 use native.Mathlib.Omega.{arith}
 use mathlib.Core.Path.{_≡_, refl, sym, ap, _∙_}
 use mathlib.Core.Logic.{⊎-elim, _⊎_}
@@ -104,17 +104,6 @@ module _ (p : ℕ) where
 
 -- ---- at the moment: no time of the passage's visits and messages is above T
 
-body-bounded : (b : Body) (m : ℕ) → bodyLatest b ≤ m → BoundedBody m b
-body-bounded Body.Empty m i = tt
-body-bounded (Body.Call c) m i = (omega arith, omega arith)
-body-bounded (Body.PhaseOne n (Asked.Refresh r)) m i = i
-body-bounded (Body.PhaseOne n Asked.Terminate) m i = tt
-body-bounded (Body.PhaseOne n Asked.Prepare) m i = tt
-body-bounded (Body.PhaseTwo n (Told.Refresh q)) m i = i
-body-bounded (Body.PhaseTwo n (Told.Terminate x)) m i = tt
-body-bounded (Body.PhaseTwo n Told.Prepare) m i = tt
-body-bounded (Body.Answer n received q) m i = tt
-
 visit-bounded : (v : Visit) (m : ℕ) → visitLatest v ≤ m → BoundedVisit m v
 visit-bounded v m i e =
     let j : max (v .quiesce) (v .release) ≤ m = rw e at i in (omega arith, omega arith)
@@ -133,7 +122,7 @@ module _ (before : List Step) (slot : ℕ) (place : slot < 16) where
       (k : ℕ) (b : Bool) → isMessageOf slot (messageAt (runOf start before) k) ≡ b
       → BoundedBody (latest (runOf start before) slot) (cond b (messageAt (runOf start before) k) noMessage .body)
   unfolding latest
-  mail-bounded k false e = tt
+  mail-bounded k false e = zero-le
   mail-bounded k true e =
       let h : Holds (viewOf (runOf start before) slot) (ledgersOf before slot) = holds-run before slot place in
       let used : isEmpty (viewOf (runOf start before) slot .mail k .body) ≡ false = rw e (mine e) in
@@ -143,7 +132,7 @@ module _ (before : List Step) (slot : ℕ) (place : slot < 16) where
       most-at (λ m. mailLatest bodyLatest slot (messageAt (runOf start before) m)) 32 k i in
       let l : bodyLatest (messageAt (runOf start before) k .body)
       ≤ mostUpTo (λ m. mailLatest bodyLatest slot (messageAt (runOf start before) m)) 32 = rw e at j in
-      body-bounded (messageAt (runOf start before) k .body) (latest (runOf start before) slot) (omega arith)
+      omega arith
     where
       mine : isMessageOf slot (messageAt (runOf start before) k) ≡ true → isEmpty (messageAt (runOf start before) k .body) ≡ false
       mine y = not-true _ (and-left (not (isEmpty (messageAt (runOf start before) k .body))) _ y)

@@ -30,7 +30,8 @@ use Rattle.rules.specs.Views.{settled, Marks, Mail, mailOf, deedOf}
 use Rattle.runs.specs.Types.{Kind, Visit, Told, Body, Message, Tables, Step, Places, Seen, Outcome}
 use Rattle.runs.specs.Put.{same-or-other}
 use Rattle.runs.specs.TimesKept.{asked-says}
-use Rattle.runs.specs.Rests.{isPrepare, tellsPrepare, carriesCommit}
+use Rattle.runs.specs.Rests.{isPrepare, carriesCommit}
+use Rattle.runs.specs.Orphans.{tellsPrepare}
 use Rattle.runs.specs.Sizes.{sized-run, sized-head, sized-turn}
 
 -- ---- definitions

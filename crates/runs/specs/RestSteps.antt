@@ -29,7 +29,8 @@ use Rattle.runs.specs.Put.{same-or-other}
 use Rattle.runs.specs.Banks.{seen-object, object-after-stored, object-after-stored-other, each-at}
 use Rattle.runs.specs.Sizes.{sized-head, sized-turn}
 use Rattle.runs.specs.Ledgers.{seenAt}
-use Rattle.runs.specs.Rests.{isPrepare, tellsPrepare, carriesCommit, commits, Stands, Turned, stands-after-turned, standing-after-call, stands-after-freed, standing-after-restored, unheld-after-restored, set-at}
+use Rattle.runs.specs.Orphans.{tellsPrepare}
+use Rattle.runs.specs.Rests.{isPrepare, carriesCommit, commits, Stands, Turned, stands-after-turned, standing-after-call, stands-after-freed, standing-after-restored, unheld-after-restored, set-at}
 
 -- ---- the records that a step leaves
 

@@ -13,6 +13,7 @@ use Rattle.rules.specs.declared.tables.Object.{Object}
 use Rattle.rules.specs.Tables.{objectAt, start}
 use Rattle.rules.specs.Parts.{isUnheld, taken, operated, unheld, freed, restored}
 use Rattle.rules.specs.Machine.{stepOf}
+use Rattle.runs.specs.Orphans.{tellsPrepare}
 use Rattle.runs.specs.Types.{Kind, Call, Told, Body, Tables, Step, Seen}
 
 -- ---- the width at rest, along a run
@@ -45,11 +46,6 @@ isPrepare Kind.None = false
 isPrepare (Kind.Refresh q r) = false
 isPrepare Kind.Terminate = false
 isPrepare Kind.Prepare = true
-
-abbrev pub tellsPrepare : Told → Bool
-tellsPrepare (Told.Refresh q) = false
-tellsPrepare (Told.Terminate m) = false
-tellsPrepare Told.Prepare = true
 
 abbrev pub carriesCommit : Body → Bool
 carriesCommit Body.Empty = false

@@ -34,8 +34,9 @@ use Rattle.runs.specs.LifeFits.{free-says}
 use Rattle.runs.specs.Steps.{run-on}
 use Rattle.runs.specs.Sizes.{sized-run, sized-head}
 use Rattle.runs.specs.RunLaws.{free-no-visit}
-use Rattle.runs.specs.Rests.{isPrepare, tellsPrepare, carriesCommit}
+use Rattle.runs.specs.Rests.{isPrepare, carriesCommit}
 use Rattle.runs.specs.Promised.{Promised, isWord, stored-has, prepared-not-swept, word-here}
+use Rattle.runs.specs.Orphans.{tellsPrepare}
 use Rattle.runs.specs.HeldFast.{let-go-with-visit}
 
 -- ---- definitions

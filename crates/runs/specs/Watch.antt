@@ -4,6 +4,7 @@ use mathlib.Core.Path.{_≡_}
 use mathlib.Core.Logic.{_⊎_}
 use mathlib.Core.Bool.{Bool, true, false}
 use Rattle.runs.specs.Types.{Kind, Phase, Status, Visit, Asked, Told, Body}
+use Rattle.runs.specs.Orphans.{bodyLatest, tellsPrepare}
 use Rattle.runs.specs.View.{View}
 
 -- what is known of the run so far: whether a commit round has begun since the begin, whether the passage is being watched
@@ -31,16 +32,21 @@ PlainKind Kind.Prepare = ⊥
 abbrev pub PlainVisit : Visit → Type 0
 PlainVisit v = v .there ≡ true → v .prepared ≡ false
 
+-- a message of a commit round, of either phase
+abbrev pub asksPrepare : Asked → Bool
+asksPrepare (Asked.Refresh r) = false
+asksPrepare Asked.Terminate = false
+asksPrepare Asked.Prepare = true
+
+abbrev pub ofCommit : Body → Bool
+ofCommit Body.Empty = false
+ofCommit (Body.Call c) = false
+ofCommit (Body.PhaseOne n asked) = asksPrepare asked
+ofCommit (Body.PhaseTwo n told) = tellsPrepare told
+ofCommit (Body.Answer n received q) = false
+
 abbrev pub PlainBody : Body → Type 0
-PlainBody Body.Empty = Unit {0}
-PlainBody (Body.Call c) = Unit {0}
-PlainBody (Body.PhaseOne n (Asked.Refresh r)) = Unit {0}
-PlainBody (Body.PhaseOne n Asked.Terminate) = Unit {0}
-PlainBody (Body.PhaseOne n Asked.Prepare) = ⊥
-PlainBody (Body.PhaseTwo n (Told.Refresh q)) = Unit {0}
-PlainBody (Body.PhaseTwo n (Told.Terminate m)) = Unit {0}
-PlainBody (Body.PhaseTwo n Told.Prepare) = ⊥
-PlainBody (Body.Answer n received q) = Unit {0}
+PlainBody b = ofCommit b ≡ false
 
 pub record Plain (w : View) : Type 0 where
   pub status : PlainStatus (w .passage .status)
@@ -54,15 +60,7 @@ abbrev pub BoundedVisit : ℕ → Visit → Type 0
 BoundedVisit latest v = v .there ≡ true → (v .quiesce ≤ latest) × (v .release ≤ latest)
 
 abbrev pub BoundedBody : ℕ → Body → Type 0
-BoundedBody latest Body.Empty = Unit {0}
-BoundedBody latest (Body.Call c) = (c .quiesce ≤ latest) × (c .release ≤ latest)
-BoundedBody latest (Body.PhaseOne n (Asked.Refresh r)) = r ≤ latest
-BoundedBody latest (Body.PhaseOne n Asked.Terminate) = Unit {0}
-BoundedBody latest (Body.PhaseOne n Asked.Prepare) = Unit {0}
-BoundedBody latest (Body.PhaseTwo n (Told.Refresh q)) = q ≤ latest
-BoundedBody latest (Body.PhaseTwo n (Told.Terminate m)) = Unit {0}
-BoundedBody latest (Body.PhaseTwo n Told.Prepare) = Unit {0}
-BoundedBody latest (Body.Answer n received q) = Unit {0}
+BoundedBody latest b = bodyLatest b ≤ latest
 
 pub record Bounded (latest : ℕ) (w : View) : Type 0 where
   pub aborted : w .passage .status ≡ Status.Aborted

@@ -1,5 +1,5 @@
 -- Steps of a message keep the invariant behind demand 3: invoke, deliver, drop. Assumes nothing.
-use Prim.Native.Nat.{ℕ}
+use Prim.Native.Nat.{ℕ, zero-le}
 use native.Mathlib.Omega.{arith}
 use mathlib.Core.Path.{_≡_, refl, sym, ap, _∙_, subst}
 use mathlib.Core.Logic.{inl, inr}
@@ -48,7 +48,7 @@ invoked-keeps latest t at h site write object value place own fine =
                 (callSite object)
                 h
                 (nextClock (siteAt t (at .site))))
-                (record { plain = λ y. tt; bounded = λ y b. b .visits (at .site) there });
+                (record { plain = λ y. refl; bounded = λ y b. omega (arith, b .visits (at .site) there .0, b .visits (at .site) there .1) });
           };
     }
   where
@@ -107,7 +107,7 @@ module _ (latest : ℕ) (t : Tables) (at : Places) (m : ℕ) (own : slotOf (mess
       noMessage
       (answerMessage v (letter .destination) (passageAt t (at .slot) .home) (letter .handle) (mailClock seen))
       (empty-keeps latest view)
-      (record { plain = λ h. tt; bounded = λ h b. tt })
+      (record { plain = λ h. refl; bounded = λ h b. zero-le })
 
   pub phase-one-keeps :
       (n : ℕ) (asked : Asked) → letter .body ≡ Body.PhaseOne n asked → Keeps latest t at (phaseOneDone m n asked seen .left)

@@ -10,7 +10,7 @@ use Rattle.runs.specs.Put.{put, put-all}
 use Rattle.runs.specs.View.{View}
 use Rattle.runs.specs.Shrunk.{around}
 use Rattle.runs.specs.Store.{leftView}
-use Rattle.runs.specs.Watch.{Known, PlainStatus, PlainKind, PlainVisit, PlainBody, Plain, BoundedVisit, BoundedBody, Bounded, Watch}
+use Rattle.runs.specs.Watch.{Known, PlainStatus, PlainKind, PlainVisit, PlainBody, Plain, BoundedVisit, BoundedBody, Bounded, Watch, ofCommit}
 
 -- ---- what is known may grow weaker: no commit round and the watch only where they were known before
 
@@ -165,7 +165,7 @@ plain-free w free none visits mail =
       status = rw free tt;
       kind = rw none tt;
       visits = λ s e. absurd (true≢false (sym e ∙ visits s));
-      mail = λ k. rw (mail k) tt;
+      mail = λ k. ap ofCommit (mail k);
     }
 
 -- ---- statuses

@@ -1,5 +1,5 @@
 -- Messages that a step may leave in the view of an orphan's slot: those that stay, and a round's own. Assumes nothing.
-use Prim.Native.Nat.{ℕ}
+use Prim.Native.Nat.{ℕ, zero-le}
 use mathlib.Core.Path.{_≡_, refl, sym, ap, _∙_, subst}
 use mathlib.Core.Logic.{_≢_, ⊎-elim}
 use mathlib.Core.Bool.{true, true≢false}
@@ -19,7 +19,7 @@ module _ (latest : ℕ) (w : View) where
   mail-keeps k = record { plain = λ h. h .mail k; bounded = λ h b. b .mail k }
 
   pub empty-keeps : BodyKeeps latest w Body.Empty
-  empty-keeps = record { plain = λ h. tt; bounded = λ h b. tt }
+  empty-keeps = record { plain = λ h. refl; bounded = λ h b. zero-le }
 
   -- a message that is seen, or seen as empty
   pub seen-keeps : (p : ℕ) (m : Message) → BodyKeeps latest w (m .body) → BodyKeeps latest w (mailOf p m .body)
@@ -46,10 +46,10 @@ module _ (latest : ℕ) (w : View) (e : Ending (w .passage)) where
       go :
           (x : Kind) → w .passage .round .kind ≡ x
           → BodyKeeps latest w (Body.PhaseOne (w .passage .round .number) (askedOf x))
-      go Kind.None f = record { plain = λ h. tt; bounded = λ h b. tt }
-      go (Kind.Refresh q r) f = record { plain = λ h. tt; bounded = λ h b. absurd (not-refresh q r n b f) }
-      go Kind.Terminate f = record { plain = λ h. tt; bounded = λ h b. tt }
-      go Kind.Prepare f = record { plain = λ h. no-prepare h f; bounded = λ h b. tt }
+      go Kind.None f = record { plain = λ h. refl; bounded = λ h b. zero-le }
+      go (Kind.Refresh q r) f = record { plain = λ h. refl; bounded = λ h b. absurd (not-refresh q r n b f) }
+      go Kind.Terminate f = record { plain = λ h. refl; bounded = λ h b. zero-le }
+      go Kind.Prepare f = record { plain = λ h. absurd (no-prepare h f); bounded = λ h b. zero-le }
 
   pub tell-keeps : w .passage .round .phase ≢ Phase.None → BodyKeeps latest w (tellBody (w .passage .round))
   tell-keeps n = go (w .passage .round .kind) refl
@@ -57,17 +57,17 @@ module _ (latest : ℕ) (w : View) (e : Ending (w .passage)) where
       go :
           (x : Kind) → w .passage .round .kind ≡ x
           → BodyKeeps latest w (Body.PhaseTwo (w .passage .round .number) (toldOf x (largestQuiesce (w .passage .round))))
-      go Kind.None f = record { plain = λ h. tt; bounded = λ h b. tt }
-      go (Kind.Refresh q r) f = record { plain = λ h. tt; bounded = λ h b. absurd (not-refresh q r n b f) }
-      go Kind.Terminate f = record { plain = λ h. tt; bounded = λ h b. tt }
-      go Kind.Prepare f = record { plain = λ h. no-prepare h f; bounded = λ h b. tt }
+      go Kind.None f = record { plain = λ h. refl; bounded = λ h b. zero-le }
+      go (Kind.Refresh q r) f = record { plain = λ h. refl; bounded = λ h b. absurd (not-refresh q r n b f) }
+      go Kind.Terminate f = record { plain = λ h. refl; bounded = λ h b. zero-le }
+      go Kind.Prepare f = record { plain = λ h. absurd (no-prepare h f); bounded = λ h b. zero-le }
 
 -- what an opened round asks of its home visit: a refresh only of a passage that is not aborted
 pub refresh-asks :
     (latest : ℕ) (w : View) (n r : ℕ) → isActive (w .passage .status) ≡ true
     → BodyKeeps latest w (Body.PhaseOne n (Asked.Refresh r))
 refresh-asks latest w n r active =
-    record { plain = λ h. tt; bounded = λ h b. absurd (aborted-active (w .passage .status) (b .aborted) active) }
+    record { plain = λ h. refl; bounded = λ h b. absurd (aborted-active (w .passage .status) (b .aborted) active) }
 
 pub terminate-asks : (latest : ℕ) (w : View) (n : ℕ) → BodyKeeps latest w (Body.PhaseOne n Asked.Terminate)
-terminate-asks latest w n = record { plain = λ h. tt; bounded = λ h b. tt }
+terminate-asks latest w n = record { plain = λ h. refl; bounded = λ h b. zero-le }

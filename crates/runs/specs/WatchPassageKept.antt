@@ -44,8 +44,8 @@ module _ (latest : ℕ) (w : View) where
       record {
         ending = λ y. absurd (aborted-running Status.Committing y refl);
         free = λ y. absurd (true≢false (ap isRunning y));
-        plain = λ h. absurd (b .plain h);
-        aborted = λ h y. absurd (b .plain h);
+        plain = λ h. absurd (true≢false (b .plain h));
+        aborted = λ h y. absurd (true≢false (b .plain h));
       }
 
   -- a status that a phase 2 message gives
@@ -58,8 +58,8 @@ module _ (latest : ℕ) (w : View) where
       record {
         ending = λ y. absurd (committed-aborted y);
         free = λ y. absurd (committed-free y);
-        plain = λ h. absurd (b .plain h);
-        aborted = λ h y. absurd (b .plain h);
+        plain = λ h. absurd (true≢false (b .plain h));
+        aborted = λ h y. absurd (true≢false (b .plain h));
       }
     where
       isCommitted : Status → Bool

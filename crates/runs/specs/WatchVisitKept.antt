@@ -1,9 +1,9 @@
 -- Visits that a step may leave at a site, in the view of an orphan's slot. Assumes nothing.
-use Prim.Native.Nat.{ℕ, _<_, _≤_}
+use Prim.Native.Nat.{ℕ, _<_, _≤_, max}
 use native.Mathlib.Omega.{arith}
 use mathlib.Core.Path.{_≡_, refl, sym, subst}
 use mathlib.Core.Logic.{_⊎_, inl, inr}
-use mathlib.Core.Bool.{Bool, true, false, cond, false≢true}
+use mathlib.Core.Bool.{Bool, true, false, cond, false≢true, true≢false}
 use Rattle.rules.specs.LoopsLaws.{either, cond-keeps}
 use Rattle.rules.specs.Tables.{noVisit}
 use Rattle.rules.specs.Parts.{quieted, newVisit, countSent, countReceived, whereThere, askedVisit, toldVisit}
@@ -68,8 +68,8 @@ module _ (latest : ℕ) (w : View) (a : ℕ) where
       }
   asked-keeps n c Asked.Prepare h =
       record {
-        plain = λ y. absurd (h .plain y);
-        bounded = λ y b. absurd (h .plain y);
+        plain = λ y. absurd (true≢false (h .plain y));
+        bounded = λ y b. absurd (true≢false (h .plain y));
         cleared = λ f b e l. e;
       }
 
@@ -117,10 +117,10 @@ module _ (latest : ℕ) (w : View) (a : ℕ) where
       makes missing j =
           record {
             plain = λ y e. refl;
-            bounded = λ y b e. h .bounded y b;
+            bounded = λ y b e. let q : max (call .quiesce) (call .release) ≤ latest = h .bounded y b in (omega arith, omega arith);
             cleared =
                 λ f b e l.
-                let q : (call .quiesce ≤ latest) × (call .release ≤ latest) = h .bounded f b in
+                let q : max (call .quiesce) (call .release) ≤ latest = h .bounded f b in
                 absurd (omega arith);
           }
 
