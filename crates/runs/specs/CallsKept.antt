@@ -14,7 +14,7 @@ use Rattle.runs.specs.Types.{Figures, Status, Visit, Call, Body, Message
 use Rattle.runs.specs.Put.{put, put-same, put-other, put-all}
 use Rattle.runs.specs.View.{View, Past, Ledger, relast, firstSeen}
 use Rattle.runs.specs.Clauses.{Below, Quiet, InAnswer, EdgeFine, SiteFine, CallFine, receivedBy, sentBy, Holds}
-use Rattle.runs.specs.ClausesLaws.{call-says}
+use Rattle.runs.specs.ClausesLaws.{call-says, bodyKind, empty-clause, call-clause}
 use Rattle.runs.specs.Shrunk.{around}
 use Rattle.runs.specs.Touched.{figure-fine, one-more, Later, later-sent, later-received, touchedView, callTo, Touch, touched-below, touched-figure, edge-touched, touched}
 
@@ -94,7 +94,7 @@ module _ (w : View) (l : Ledger) (h : Holds w l) (s k d handle stamp : ℕ) (c :
   invoked-touch =
       early-touch w l h s there early counted k newCall there
       (rw (← sender-last) (later-sent (l s) d sender-counts))
-      (λ n v f z. z)
+      (λ n v f z. omega (arith, ap bodyKind (z .body)))
       (λ i e q b. let j : i .release ≡ l s .last .release = cc same-release in rw j (b .visits s sender-seen))
 
   -- the caller has now sent to d; its figures, if it has any, are of its own round
@@ -142,7 +142,7 @@ module _ (w : View) (l : Ledger) (h : Holds w l) (s k d handle stamp : ℕ) (c :
   invoked-kept =
       touched invoked-touch
       (λ u. absurd (true≢false (sym sender-seen ∙ u)))
-      invoked-call
+      (call-clause invoked-call)
       (λ _. (kin, sender .place, din))
       kin
       (sender .place)
@@ -162,7 +162,7 @@ module _ (w : View) (l : Ledger) (h : Holds w l) (k a : ℕ) (c : Call)
   call-place = rw at (call-posted .2)
 
   call-busy : Quiet w l → ⊥
-  call-busy q = rw body at (q .mail k)
+  call-busy q = q .mail k .call c body
 
   call-used : w .passage .status ≢ Status.Free
   call-used e = true≢false (ap isEmpty (sym (h .free e .mail k) ∙ body))
@@ -193,7 +193,7 @@ module _ (w : View) (l : Ledger) (h : Holds w l) (k a : ℕ) (c : Call)
     received-touch =
         early-touch w l h a there early received k noMessage there
         (rw (← callee-last) (later-received (l a)))
-        (λ n v f z. z)
+        (λ n v f z. omega (arith, ap bodyKind (z .body)))
         (λ i e. absurd (true≢false (ap isEmpty e)))
 
     received-fair :
@@ -213,7 +213,7 @@ module _ (w : View) (l : Ledger) (h : Holds w l) (k a : ℕ) (c : Call)
     received-kept =
         touched received-touch
         (λ u. absurd (true≢false (sym callee-seen ∙ u)))
-        tt
+        empty-clause
         (λ e. absurd (true≢false e))
         (call-posted .0)
         call-place
@@ -255,7 +255,7 @@ module _ (w : View) (l : Ledger) (h : Holds w l) (k a : ℕ) (c : Call)
           there = refl;
           mirror = (refl, refl);
           release = λ q b. b .calls k c body (rw (← at) never-twice);
-          silent = λ n v f z. z;
+          silent = λ n v f z. omega (arith, ap bodyKind (z .body));
           calls = λ i e. absurd (true≢false (ap isEmpty e));
         }
 
@@ -315,4 +315,4 @@ module _ (w : View) (l : Ledger) (h : Holds w l) (k a : ℕ) (c : Call)
         a
         (firstSeen l (w .mail k .source) (countReceived (newVisit (c .quiesce) (c .release) (c .round)))))
     made-kept =
-        touched made-touch (λ u. made-site) tt (λ e. absurd (true≢false e)) (call-posted .0) call-place made-fair
+        touched made-touch (λ u. made-site) empty-clause (λ e. absurd (true≢false e)) (call-posted .0) call-place made-fair

@@ -33,14 +33,9 @@ pub record Below (w : View) (l : Ledger) (q : ℕ) : Type 0 where
 -- ---- quiet: nothing that the passage has anywhere can still do harm
 
 -- a message of a quiet passage is no call, and a phase 2 refresh comes too late
-abbrev pub QuietMail : Ledger → ℕ → Body → Type 0
-QuietMail l d Body.Empty = Unit {0}
-QuietMail l d (Body.Call c) = ⊥
-QuietMail l d (Body.PhaseOne n a) = Unit {0}
-QuietMail l d (Body.PhaseTwo n (Told.Refresh q)) = (l d .seen ≡ true) × (n < l d .last .round)
-QuietMail l d (Body.PhaseTwo n (Told.Terminate m)) = Unit {0}
-QuietMail l d (Body.PhaseTwo n Told.Prepare) = Unit {0}
-QuietMail l d (Body.Answer n received q) = Unit {0}
+pub record QuietMail (l : Ledger) (d : ℕ) (b : Body) : Type 0 where
+  pub call : (c : Call) → b ≡ Body.Call c → ⊥
+  pub late : (n q : ℕ) → b ≡ Body.PhaseTwo n (Told.Refresh q) → (l d .seen ≡ true) × (n < l d .last .round)
 
 pub record Quiet (w : View) (l : Ledger) : Type 0 where
   pub binding : isBinding (w .passage .round .kind) ≡ true
@@ -53,12 +48,12 @@ pub record Quiet (w : View) (l : Ledger) : Type 0 where
 abbrev pub sentFigures : Message → ℕ → ℕ → Figures
 sentFigures m received q = record { sent = m .sent; received = received; quiesce = q }
 
-abbrev pub InAnswer : ℕ → ℕ → Figures → Message → Body → Type 0
-InAnswer n v f m Body.Empty = ⊥
-InAnswer n v f m (Body.Call c) = ⊥
-InAnswer n v f m (Body.PhaseOne j a) = ⊥
-InAnswer n v f m (Body.PhaseTwo j d) = ⊥
-InAnswer n v f m (Body.Answer j received q) = (j ≡ n) × (m .source ≡ v) × (f ≡ sentFigures m received q)
+pub record InAnswer (n v : ℕ) (f : Figures) (m : Message) (b : Body) : Type 0 where
+  pub received : ℕ
+  pub quiesce : ℕ
+  pub body : b ≡ Body.Answer n received quiesce
+  pub source : m .source ≡ v
+  pub figures : f ≡ sentFigures m received quiesce
 
 abbrev pub Kept : Round → ℕ → Figures → Type 0
 Kept r v f = (v < 8) × (hasAnswered r v ≡ true) × (f ≡ figuresAt r v)
@@ -134,14 +129,15 @@ ToldFine w l m n (Told.Refresh q) = LateFine w l m n q
 ToldFine w l m n (Told.Terminate x) = Quiet w l × ((s : ℕ) → l s .seen ≡ true → l s .last .quiesce ≤ x)
 ToldFine w l m n Told.Prepare = Quiet w l
 
-abbrev pub BodyFine : View → Ledger → Message → Body → Type 0
-BodyFine w l m Body.Empty = Unit {0}
-BodyFine w l m (Body.Call c) = CallFine w l m c
-BodyFine w l m (Body.PhaseOne n a) = PhaseOneFine w m n a
-BodyFine w l m (Body.PhaseTwo n told) = (m .destination ≢ w .passage .home) × ToldFine w l m n told
-BodyFine w l m (Body.Answer n received q) =
-    (n ≤ w .passage .round .number)
-    × (n ≡ w .passage .round .number → FigureFine w l (m .source) (sentFigures m received q))
+-- of a message, by what it is; of an empty slot nothing is said
+pub record BodyFine (w : View) (l : Ledger) (m : Message) (b : Body) : Type 0 where
+  pub call : (c : Call) → b ≡ Body.Call c → CallFine w l m c
+  pub one : (n : ℕ) (a : Asked) → b ≡ Body.PhaseOne n a → PhaseOneFine w m n a
+  pub two : (n : ℕ) (told : Told) → b ≡ Body.PhaseTwo n told → (m .destination ≢ w .passage .home) × ToldFine w l m n told
+  pub answer :
+      (n received q : ℕ) → b ≡ Body.Answer n received q
+      → (n ≤ w .passage .round .number)
+      × (n ≡ w .passage .round .number → FigureFine w l (m .source) (sentFigures m received q))
 
 -- a message slot in use is one of 32, and goes from a site to a site
 abbrev pub Posted : ℕ → Message → Type 0

@@ -12,7 +12,7 @@ use Rattle.rules.specs.Rounds.{roundTold, closedPassage}
 use Rattle.runs.specs.Types.{Kind, Phase, Status, Call, Told, Body}
 use Rattle.runs.specs.View.{View, Ledger}
 use Rattle.runs.specs.Clauses.{isRefresh, isBinding, Below, QuietMail, Quiet, BodyFine, Holds}
-use Rattle.runs.specs.ClausesLaws.{binding-no-refresh, call-says}
+use Rattle.runs.specs.ClausesLaws.{binding-no-refresh, call-says, late-says}
 use Rattle.runs.specs.RoundKept.{restated-kept}
 use Rattle.runs.specs.Closing.{closing-refresh, closing-making, closing-binding, closing-no-call}
 
@@ -76,20 +76,17 @@ module _ (w : View) (l : Ledger) (h : Holds w l)
       h .passage .kept s (h .sites s e .place) (closing-binding w l h one closed b s e) .answered
 
   -- when the round binds, no message can do harm
-  quiet-body :
-      isBinding (w .passage .round .kind) ≡ true → (k : ℕ) (b : Body) → w .mail k .body ≡ b
-      → BodyFine w l (w .mail k) b → QuietMail l (w .mail k .destination) b
-  quiet-body y k Body.Empty e f = tt
-  quiet-body y k (Body.Call c) e f = closed-no-call y k c e
-  quiet-body y k (Body.PhaseOne n a) e f = tt
-  quiet-body y k (Body.PhaseTwo n (Told.Refresh q)) e f =
-      let r : l (w .mail k .destination) .last .round ≡ w .passage .round .number =
-      closed-round y (w .mail k .destination) (f .1 .seen) in
-      let x : n ≢ w .passage .round .number = λ z. binding-no-refresh (w .passage .round .kind) y (f .1 .kind z) in
-      (f .1 .seen, omega (arith, f .1 .number))
-  quiet-body y k (Body.PhaseTwo n (Told.Terminate m)) e f = tt
-  quiet-body y k (Body.PhaseTwo n Told.Prepare) e f = tt
-  quiet-body y k (Body.Answer n received q) e f = tt
+  quiet-body : isBinding (w .passage .round .kind) ≡ true → (k : ℕ) → QuietMail l (w .mail k .destination) (w .mail k .body)
+  quiet-body y k =
+      record {
+        call = λ c e. closed-no-call y k c e;
+        late =
+            λ n q e.
+            let f = late-says w l h k n q e in
+            let r : l (w .mail k .destination) .last .round ≡ w .passage .round .number = closed-round y (w .mail k .destination) (f .seen) in
+            let x : n ≢ w .passage .round .number = λ z. binding-no-refresh (w .passage .round .kind) y (f .kind z) in
+            (f .seen, omega (arith, f .number));
+      }
 
   -- when the round binds, the passage is quiet after the close
   pub closed-is-quiet : isBinding (w .passage .round .kind) ≡ true → Quiet (closedView w) l
@@ -97,7 +94,7 @@ module _ (w : View) (l : Ledger) (h : Holds w l)
       record {
         binding = b;
         over = closed-over (w .passage .round .kind) (largestQuiesce (w .passage .round)) refl b;
-        mail = λ k. quiet-body b k (w .mail k .body) refl (h .mail k);
+        mail = λ k. quiet-body b k;
         quiesced = λ s e. h .sites s e .bound b (closed-round b s e);
       }
 

@@ -13,7 +13,7 @@ use Rattle.runs.specs.Plain.{when-true, when-false}
 use Rattle.runs.specs.Put.{put, put-same, put-all}
 use Rattle.runs.specs.View.{View, Ledger, noLedger, noted, relast, firstSeen}
 use Rattle.runs.specs.Clauses.{QuietMail, Quiet, sentFigures, InAnswer, FigureFine, PhaseOneFine, LateFine, Holds}
-use Rattle.runs.specs.ClausesLaws.{binding-no-refresh, body-says, late-says, terminate-says, prepare-says}
+use Rattle.runs.specs.ClausesLaws.{binding-no-refresh, late-says, terminate-says, prepare-says}
 use Rattle.runs.specs.Shrunk.{shrunk}
 use Rattle.runs.specs.VisitKept.{withVisit, withLast}
 use Rattle.runs.specs.TimesKept.{asked-says, asked-kept, told-refresh-kept, told-terminate-kept}
@@ -127,7 +127,7 @@ module _ (w : View) (l : Ledger) (a k c : ℕ) (h : Holds w l) (i : w .clock a �
     asks = askedVisit asked n c (w .visit a)
 
     one-says : PhaseOneFine later (w .mail k) n asked
-    one-says = body-says later l later-holds k (Body.PhaseOne n asked) body
+    one-says = later-holds .mail k .one n asked body
 
     asks-there : asks .there ≡ true
     asks-there = asked-says asked n c (w .visit a) .there ∙ there
@@ -209,7 +209,7 @@ module _ (w : View) (l : Ledger) (a k c : ℕ) (h : Holds w l) (i : w .clock a �
         (says .late two-round)
         (λ y.
         let j : n < l (w .mail k .destination) .last .round =
-        subst (QuietMail l (w .mail k .destination)) body (y .mail k) .1 in
+        y .mail k .late n q body .1 in
         let e : n ≡ l (w .mail k .destination) .last .round = two-round in
         omega arith)
         (λ b e. binding-no-refresh (w .passage .round .kind) b (says .kind (round ∙ e))))
@@ -251,7 +251,7 @@ module _ (w : View) (l : Ledger) (a k c : ℕ) (h : Holds w l) (i : w .clock a �
     two-lands Told.Prepare source body = two-prepare source body
 
     pub two-away : (told : Told) → w .mail k .body ≡ Body.PhaseTwo n told → w .mail k .destination ≢ w .passage .home
-    two-away told body = body-says w l h k (Body.PhaseTwo n told) body .0
+    two-away told body = h .mail k .two n told body .0
 
   -- ---- an answer of the open round in phase 1 is kept
 
@@ -268,14 +268,11 @@ module _ (w : View) (l : Ledger) (a k c : ℕ) (h : Holds w l) (i : w .clock a �
     kept = withRound (w .passage) (withAnswer (w .passage .round) source figures)
 
     figures-fine : FigureFine later l source figures
-    figures-fine = body-says later l later-holds k (Body.Answer n received q) body .1 number
+    figures-fine = later-holds .mail k .answer n received q body .1 number
 
     in-answer : InAnswer (w .passage .round .number) source figures (w .mail k) (w .mail k .body)
     in-answer =
-        subst
-        (InAnswer (w .passage .round .number) source figures (w .mail k))
-        (sym body)
-        (number, refl, refl)
+        record { received = received; quiesce = q; body = body ∙ ap (λ (j : ℕ). Body.Answer j received q) number; source = refl; figures = refl }
 
     pub answer-lands : Landed kept (w .visit a) noMessage source
     answer-lands =

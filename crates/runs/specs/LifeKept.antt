@@ -12,6 +12,7 @@ use Rattle.runs.specs.Types.{Round, Status, Visit, Body}
 use Rattle.runs.specs.Put.{put, put-same, put-other, put-all, same-or-other}
 use Rattle.runs.specs.View.{View, Ledger, noLedger, firstSeen}
 use Rattle.runs.specs.Clauses.{isRefresh, Below, SiteFine, PassageFine, callsTo, receivedBy, Holds}
+use Rattle.runs.specs.ClausesLaws.{empty-clause}
 use Rattle.runs.specs.Masks.{nobody-answers}
 
 -- a sum of nothing
@@ -54,7 +55,7 @@ free-kept w home e visits mail =
       mirror = λ s y. absurd (true≢false (sym y ∙ visits s));
       sites = λ s y. absurd (false≢true y);
       posted = λ k y. absurd (true≢false (sym (ap isEmpty (mail k)) ∙ y));
-      mail = λ k. rw (mail k) tt;
+      mail = λ k. rw (mail k) empty-clause;
       passage = fresh-passage w noLedger home e;
       balance = λ d. let a : callsTo w d ≡ 0 = no-calls w mail d in omega arith;
     }
@@ -132,7 +133,7 @@ module _ (w : View) (l : Ledger) (home q r source : ℕ) (h : Holds w l)
             (same-or-other s home);
         sites = λ s e. rw (only-home s e) begun-site;
         posted = h .posted;
-        mail = λ k. rw (h .free free .mail k) tt;
+        mail = λ k. rw (h .free free .mail k) empty-clause;
         passage = fresh-passage begunView begunLedger place refl;
         balance =
             λ d.

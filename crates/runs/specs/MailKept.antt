@@ -12,6 +12,7 @@ use Rattle.runs.specs.Types.{Figures, Kind, Phase, Status, Call, Body, M
 use Rattle.runs.specs.Put.{put, put-all}
 use Rattle.runs.specs.View.{View, Ledger}
 use Rattle.runs.specs.Clauses.{isRefresh, isBinding, Below, QuietMail, Quiet, InAnswer, Figure, FigureFine, EdgeFine, SiteFine, ToldFine, BodyFine, Posted, isCallTo, callsTo, Balanced, Holds}
+use Rattle.runs.specs.ClausesLaws.{bodyKind, one-quiet, two-quiet, answer-quiet, one-clause, two-clause, answer-clause}
 use Rattle.runs.specs.Shrunk.{around, sum-le, body-around, passage-around, site-around}
 
 -- the view with this message at slot k
@@ -190,10 +191,10 @@ ask-kept w l k site h stamp g taken i j away =
       taken = taken;
       posted = (i, g .passage .home, j);
       no-call = λ d a. refl;
-      quiet = λ q. tt;
-      figures = λ v d e f y z. absurd z;
+      quiet = λ q. one-quiet;
+      figures = λ v d e f y z. absurd (omega (arith, ap bodyKind (z .body)));
     })
-    (record { number = omega arith; away = away; kind = λ e. refl })
+    (one-clause (record { number = omega arith; away = away; kind = λ e. refl }))
 
 -- ---- tell: a phase 2 message from home to a site that has answered
 
@@ -205,10 +206,10 @@ module _ (w : View) (l : Ledger) (k site h stamp : ℕ) (g : Holds w l)
   tell-quiet :
       (x : Kind) → x ≡ w .passage .round .kind → Quiet w l
       → QuietMail l site (Body.PhaseTwo (w .passage .round .number) (toldOf x (largestQuiesce (w .passage .round))))
-  tell-quiet Kind.None e q = tt
+  tell-quiet Kind.None e q = two-quiet refl
   tell-quiet (Kind.Refresh q′ r) e q = absurd (false≢true (ap isBinding e ∙ q .binding))
-  tell-quiet Kind.Terminate e q = tt
-  tell-quiet Kind.Prepare e q = tt
+  tell-quiet Kind.Terminate e q = two-quiet refl
+  tell-quiet Kind.Prepare e q = two-quiet refl
 
   tell-letter :
       Letter w l k (plainMessage (tellBody (w .passage .round)) (w .passage .home) site h stamp)
@@ -218,7 +219,7 @@ module _ (w : View) (l : Ledger) (k site h stamp : ℕ) (g : Holds w l)
         posted = (slot, g .passage .home, place);
         no-call = λ d a. refl;
         quiet = tell-quiet (w .passage .round .kind) refl;
-        figures = λ v d e f y z. absurd z;
+        figures = λ v d e f y z. absurd (omega (arith, ap bodyKind (z .body)));
       }
 
   tell-fine :
@@ -246,7 +247,7 @@ module _ (w : View) (l : Ledger) (k site h stamp : ℕ) (g : Holds w l)
   pub tell-kept :
       w .passage .round .kind ≢ Kind.None
       → Holds (withMail w k (plainMessage (tellBody (w .passage .round)) (w .passage .home) site h stamp)) l
-  tell-kept n = mail-kept w l k _ g tell-letter (away, tell-fine (w .passage .round .kind) refl n)
+  tell-kept n = mail-kept w l k _ g tell-letter (two-clause away (tell-fine (w .passage .round .kind) refl n))
 
 -- ---- the answer of a visit, in place of the phase 1 message
 
@@ -264,21 +265,21 @@ reply-kept w l k a h stamp g was slot =
       taken = λ e. true≢false (sym was ∙ g .free e .visits a);
       posted = (slot, fine .place, g .passage .home);
       no-call = λ d x. refl;
-      quiet = λ q. tt;
+      quiet = λ q. answer-quiet;
       figures =
           λ v d j f y z.
-          let e : a ≡ v = z .1 in
+          let e : a ≡ v = z .source in
           let i : 1 ≤ getD (w .visit a .sent) d 0 = rw (← last) (rw e (y .sent)) in
-          rw (z .2) i;
-    }) (
-      rw last at (fine .number),
-      λ e.
-          record {
-            seen = g .mirror a was .0;
-            answered = rw last e;
-            bound = λ b. (rw last refl, rw last refl, rw last (omega arith));
-          },
-    )
+          rw (z .figures) i;
+    })
+    (answer-clause
+    (rw last at (fine .number))
+    (λ e.
+    record {
+      seen = g .mirror a was .0;
+      answered = rw last e;
+      bound = λ b. (rw last refl, rw last refl, rw last (omega arith));
+    }))
   where
     fine : SiteFine w l a
     fine = g .sites a (g .mirror a was .0)

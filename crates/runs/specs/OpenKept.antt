@@ -58,23 +58,15 @@ module _ (w : View) (l : Ledger) (status : Status) (kind : Kind) (h : Holds w l)
   not-new : (n : ℕ) → n ≤ w .passage .round .number → n ≡ w .passage .round .number + 1 → ⊥
   not-new n i e = omega arith
 
-  -- no answer in flight has the new number
-  new-answer :
-      (v : ℕ) (f : Figures) (m : Message) (b : Body) → BodyFine w l m b
-      → InAnswer (w .passage .round .number + 1) v f m b → ⊥
-  new-answer v f m Body.Empty g y = y
-  new-answer v f m (Body.Call c) g y = y
-  new-answer v f m (Body.PhaseOne n a) g y = y
-  new-answer v f m (Body.PhaseTwo n d) g y = y
-  new-answer v f m (Body.Answer n received q) g y = not-new n (g .0) (y .0)
-
   new-kept : (v : ℕ) → v < 8 → hasAnswered (renumbered w status kind .passage .round) v ≡ true → ⊥
   new-kept v i e =
       true≢false (sym e ∙ nobody-answers (renumbered w status kind .passage .round) v refl i)
 
+  -- no answer in flight has the new number
   new-figure : (v : ℕ) (f : Figures) → Figure (renumbered w status kind) v f → ⊥
   new-figure v f (inl (i, e, g)) = new-kept v i e
-  new-figure v f (inr (k, y)) = new-answer v f (w .mail k) (w .mail k .body) (h .mail k) y
+  new-figure v f (inr (k, y)) =
+      not-new (w .passage .round .number + 1) (h .mail k .answer (w .passage .round .number + 1) (y .received) (y .quiesce) (y .body) .0) refl
 
   new-edge : (v d k : ℕ) → EdgeFine w l v d k → EdgeFine (renumbered w status kind) l v d k
   new-edge v d k g =
@@ -122,26 +114,32 @@ module _ (w : View) (l : Ledger) (status : Status) (kind : Kind) (h : Holds w l)
   new-told m n Told.Prepare g = new-quiet g
 
   new-body : (m : Message) (b : Body) → BodyFine w l m b → BodyFine (renumbered w status kind) l m b
-  new-body m Body.Empty g = tt
-  new-body m (Body.Call c) g =
+  new-body m b h =
       record {
-        number = let i : c .round ≤ w .passage .round .number = g .number in omega arith;
-        edge = new-edge (m .source) (m .destination) (c .round) (g .edge);
-        times = new-below (c .quiesce) (g .times);
-        refresh-one = λ q r k s e. absurd (not-new (c .round) (g .number) e);
-        bound = λ b e. not-new (c .round) (g .number) e;
+        call =
+            λ c e.
+            let g = h .call c e in
+            record {
+              number = let i : c .round ≤ w .passage .round .number = g .number in omega arith;
+              edge = new-edge (m .source) (m .destination) (c .round) (g .edge);
+              times = new-below (c .quiesce) (g .times);
+              refresh-one = λ q r k s i. absurd (not-new (c .round) (g .number) i);
+              bound = λ b i. not-new (c .round) (g .number) i;
+            };
+        one =
+            λ n a e.
+            let g = h .one n a e in
+            record {
+              number = let i : n ≤ w .passage .round .number = g .number in omega arith;
+              away = g .away;
+              kind = λ i. absurd (not-new n (g .number) i);
+            };
+        two = λ n d e. (h .two n d e .0, new-told m n d (h .two n d e .1));
+        answer =
+            λ n r q e.
+            let i : n ≤ w .passage .round .number = h .answer n r q e .0 in
+            (omega arith, λ j. absurd (not-new n i j));
       }
-  new-body m (Body.PhaseOne n a) g =
-      record {
-        number = let i : n ≤ w .passage .round .number = g .number in omega arith;
-        away = g .away;
-        kind = λ e. absurd (not-new n (g .number) e);
-      }
-  new-body m (Body.PhaseTwo n d) g = (g .0, new-told m n d (g .1))
-  new-body m (Body.Answer n received q) g = (
-    (let i : n ≤ w .passage .round .number = g .0 in omega arith),
-    λ e. absurd (not-new n (g .0) e),
-  )
 
   pub renumbered-kept : Holds (renumbered w status kind) l
   renumbered-kept =

@@ -110,10 +110,7 @@ module _ (ss : List Step) (p : ℕ) (slot : p < 16) where
       passageAt Left p .round .phase ≡ Phase.Two → isBinding (passageAt Left p .round .kind) ≡ true
       → (m : ℕ) (c : Call) → messageAt Left m .body ≡ Body.Call c → slotOf (messageAt Left m .handle) ≢ p
   no-call-after two binding m c e h =
-      subst
-      (QuietMail Past (viewOf Left p .mail m .destination))
-      (mine-body m c e h)
-      (holds-run .passage .closed-quiet two binding .mail m)
+      holds-run .passage .closed-quiet two binding .mail m .call c (mine-body m c e h)
 
   -- ---- a free slot has no visit and no message
 

@@ -61,11 +61,13 @@ module _ (w : View) (status : Status) (phase : Phase) (answered : ℕ) (figures 
   told-kept m n Told.Prepare h = quiet h
 
   pub body-kept : (m : Message) (b : Body) → BodyFine w l m b → BodyFine (alikeView w status phase answered figures visit clock mail) l m b
-  body-kept m Body.Empty h = tt
-  body-kept m (Body.Call c) h = call-kept m c h
-  body-kept m (Body.PhaseOne n a) h = record { number = h .number; away = h .away; kind = h .kind }
-  body-kept m (Body.PhaseTwo n d) h = (h .0, told-kept m n d (h .1))
-  body-kept m (Body.Answer n received q) h = (h .0, λ e. figure-kept (m .source) _ (h .1 e))
+  body-kept m b h =
+      record {
+        call = λ c e. call-kept m c (h .call c e);
+        one = λ n a e. let f = h .one n a e in record { number = f .number; away = f .away; kind = f .kind };
+        two = λ n d e. (h .two n d e .0, told-kept m n d (h .two n d e .1));
+        answer = λ n r q e. (h .answer n r q e .0, λ i. figure-kept (m .source) _ (h .answer n r q e .1 i));
+      }
 
   -- at a site whose clock did not go back; its visit is there if it was, or it went at its time
   pub site-kept :

@@ -10,6 +10,7 @@ use Rattle.rules.specs.Parts.{isEmpty}
 use Rattle.runs.specs.Types.{Figures, Visit, Body, Message}
 use Rattle.runs.specs.View.{View, Ledger}
 use Rattle.runs.specs.Same.{body-kept, site-kept}
+use Rattle.runs.specs.ClausesLaws.{bodyKind, empty-clause, empty-quiet}
 use Rattle.runs.specs.Clauses.{Below, Quiet, Figure, FigureFine, EdgeFine, SiteFine, BodyFine, PassageFine, FreeFine, isCallTo, callsTo, Balanced, Holds}
 
 -- a sum of smaller numbers is smaller
@@ -114,7 +115,7 @@ module _ (w : View) (visit : ℕ → Visit) (clock : ℕ → ℕ) (mail : ℕ �
       record {
         binding = h .binding;
         over = h .over;
-        mail = λ k. ⊎-elim (λ m. rw m (h .mail k)) (λ m. rw m tt) (mails k);
+        mail = λ k. ⊎-elim (λ m. rw m (h .mail k)) (λ m. rw m empty-quiet) (mails k);
         quiesced =
             λ s e.
             let a : l s .last .quiesce ≤ w .clock s = h .quiesced s e in
@@ -127,7 +128,7 @@ module _ (w : View) (visit : ℕ → Visit) (clock : ℕ → ℕ) (mail : ℕ �
   shrunk-figure v f (inr (k, x)) =
       ⊎-elim
       (λ m. inr (k, rw m at x))
-      (λ m. absurd (rw m at x))
+      (λ m. absurd (omega (arith, ap bodyKind (sym m ∙ x .body))))
       (mails k)
 
   shrunk-edge : (v d k : ℕ) → EdgeFine w l v d k → EdgeFine (around w visit clock mail) l v d k
@@ -183,7 +184,7 @@ module _ (w : View) (visit : ℕ → Visit) (clock : ℕ → ℕ) (mail : ℕ �
           → BodyFine (around w visit clock mail) l (mail k) (mail k .body)
       shrunk-mail k (inl m) =
           rw m (body-around w visit clock mail l shrunk-below shrunk-quiet shrunk-edge (w .mail k) (w .mail k .body) (h .mail k))
-      shrunk-mail k (inr m) = rw m tt
+      shrunk-mail k (inr m) = rw m empty-clause
 
       one-fewer :
           (d k : ℕ) → (mail k ≡ w .mail k) ⊎ (mail k .body ≡ Body.Empty)

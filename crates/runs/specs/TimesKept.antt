@@ -267,7 +267,7 @@ told-terminate-kept w l a m h was y most =
       needed = λ q n. n .0;
       here = (rw last at (h .sites a seen .times), rw last at (most a seen));
       others = λ s e. (h .sites s e .times, most s e);
-      calls = λ k c e. absurd (rw e at (y .mail k));
+      calls = λ k c e. absurd (y .mail k .call c e);
       two = λ q r p k. absurd (no-refresh q r k);
       late = λ k n q e i. absurd (too-late k n q e i);
       refresh-one = λ q r k e. absurd (no-refresh q r k);
@@ -291,6 +291,6 @@ told-terminate-kept w l a m h was y most =
         (k n q : ℕ) → w .mail k .body ≡ Body.PhaseTwo n (Told.Refresh q)
         → n ≡ l (w .mail k .destination) .last .round → ⊥
     too-late k n q e i =
-        let j : n < l (w .mail k .destination) .last .round = (rw e at (y .mail k)) .1 in
+        let j : n < l (w .mail k .destination) .last .round = y .mail k .late n q e .1 in
         let g : n ≡ l (w .mail k .destination) .last .round = i in
         omega arith

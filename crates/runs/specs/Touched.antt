@@ -48,16 +48,8 @@ one-more l d e h =
 module _ (w : View) (l : Ledger) (h : Holds w l) where
   pub figure-fine : (v : ℕ) (f : Figures) → Figure w v f → FigureFine w l v f
   figure-fine v f (inl k) = rw (k .2) (h .passage .kept v (k .0) (k .1))
-  figure-fine v f (inr (k, x)) = sent-fine (w .mail k .body) (h .mail k) x
-    where
-      sent-fine :
-          (b : Body) → BodyFine w l (w .mail k) b → InAnswer (w .passage .round .number) v f (w .mail k) b
-          → FigureFine w l v f
-      sent-fine Body.Empty g x = absurd x
-      sent-fine (Body.Call c) g x = absurd x
-      sent-fine (Body.PhaseOne n a) g x = absurd x
-      sent-fine (Body.PhaseTwo n d) g x = absurd x
-      sent-fine (Body.Answer n received q) g x = rw (← x .1, x .2) (g .1 (x .0))
+  figure-fine v f (inr (k, x)) =
+      rw (← x .source, x .figures) (h .mail k .answer (w .passage .round .number) (x .received) (x .quiesce) (x .body) .1 refl)
 
 -- ---- what a change of a visit leaves: its times, its round and how it was made; and it has sent no less
 
@@ -231,11 +223,13 @@ module _ {w : View} {l : Ledger} {a : ℕ} {v : Visit} {y : Past} {k : ℕ} {x :
   told-touched m n Told.Prepare h = absurd (t .busy h)
 
   body-touched : (m : Message) (b : Body) → BodyFine w l m b → BodyFine (touchedView w a v k x) (put l a y) m b
-  body-touched m Body.Empty h = tt
-  body-touched m (Body.Call c) h = call-touched m c h
-  body-touched m (Body.PhaseOne n b) h = record { number = h .number; away = h .away; kind = h .kind }
-  body-touched m (Body.PhaseTwo n d) h = (h .0, told-touched m n d (h .1))
-  body-touched m (Body.Answer n received q) h = (h .0, λ e. figure-touched (m .source) _ (h .1 e))
+  body-touched m b h =
+      record {
+        call = λ c e. call-touched m c (h .call c e);
+        one = λ n b e. let f = h .one n b e in record { number = f .number; away = f .away; kind = f .kind };
+        two = λ n d e. (h .two n d e .0, told-touched m n d (h .two n d e .1));
+        answer = λ n r q e. (h .answer n r q e .0, λ i. figure-touched (m .source) _ (h .answer n r q e .1 i));
+      }
 
   passage-touched : PassageFine w l → PassageFine (touchedView w a v k x) (put l a y)
   passage-touched h =

@@ -10,7 +10,7 @@ use Rattle.rules.specs.Parts.{largestQuiesce}
 use Rattle.runs.specs.Types.{Figures, Kind, Phase, Visit, Call, Told, Body, Message}
 use Rattle.runs.specs.Put.{put, put-same, put-other, put-all, same-or-other}
 use Rattle.runs.specs.View.{View, Ledger, relast}
-use Rattle.runs.specs.Clauses.{isBinding, Below, QuietMail, Quiet, FigureFine, EdgeFine, SiteFine, BodyFine, receivedBy, sentBy, sentFigures, Balanced, Holds}
+use Rattle.runs.specs.Clauses.{isBinding, Below, QuietMail, Quiet, FigureFine, EdgeFine, SiteFine, BodyFine, receivedBy, sentBy, sentFigures, Balanced, Holds, ToldFine}
 
 -- the view with this visit at site a
 abbrev pub withVisit : View → ℕ → Visit → View
@@ -117,16 +117,15 @@ module _ (w : View) (l : Ledger) (a : ℕ) (v : Visit) (Needed : ℕ → Type 0)
       put-all l a (relast (l a) v) (λ s y. y .seen ≡ true → P s (y .last .quiesce)) (λ e. here) (λ s n e. old s e)
 
   quiet-mail : (d : ℕ) (b : Body) → QuietMail l d b → QuietMail (withLast l a v) d b
-  quiet-mail d Body.Empty q = tt
-  quiet-mail d (Body.Call c) q = q
-  quiet-mail d (Body.PhaseOne n k) q = tt
-  quiet-mail d (Body.PhaseTwo n (Told.Refresh t)) q =
-      let r : l d .last .round ≤ withLast l a v d .last .round = round-rises d in
-      let i : n < l d .last .round = q .1 in
-      (seen-same d ∙ q .0, omega arith)
-  quiet-mail d (Body.PhaseTwo n (Told.Terminate m)) q = tt
-  quiet-mail d (Body.PhaseTwo n Told.Prepare) q = tt
-  quiet-mail d (Body.Answer n received t) q = tt
+  quiet-mail d b q =
+      record {
+        call = q .call;
+        late =
+            λ n t e.
+            let r : l d .last .round ≤ withLast l a v d .last .round = round-rises d in
+            let i : n < l d .last .round = q .late n t e .1 in
+            (seen-same d ∙ q .late n t e .0, omega arith);
+      }
 
   quiet : Quiet w l → Quiet (withVisit w a v) (withLast l a v)
   quiet q =
@@ -186,43 +185,38 @@ module _ (w : View) (l : Ledger) (a : ℕ) (v : Visit) (Needed : ℕ → Type 0)
         figures = g .figures;
       }
 
-  body : (k : ℕ) (m : Message) → m ≡ w .mail k → (b : Body) → b ≡ m .body → BodyFine w l m b → BodyFine (withVisit w a v) (withLast l a v) m b
-  body k m i Body.Empty e g = tt
-  body k m i (Body.Call c) e g =
+  told :
+      (k n : ℕ) (d : Told) → w .mail k .body ≡ Body.PhaseTwo n d → ToldFine w l (w .mail k) n d → ToldFine (withVisit w a v) (withLast l a v) (w .mail k) n d
+  told k n (Told.Refresh q) e g =
+      let r : l (w .mail k .destination) .last .round ≤ withLast l a v (w .mail k .destination) .last .round = round-rises (w .mail k .destination) in
+      let j : n ≤ l (w .mail k .destination) .last .round = g .number in
       record {
-        number = g .number;
-        edge = edge (m .source) (m .destination) (c .round) (g .edge);
-        times = below (c .quiesce) (x .calls k c (sym (e ∙ ap (λ (y : Message). y .body) i)));
-        refresh-one = λ q r o n. g .refresh-one q r o (sym (seen-same (m .destination)) ∙ n);
-        bound = g .bound;
+        seen = seen-same (w .mail k .destination) ∙ g .seen;
+        number = omega arith;
+        late = λ t. below q (x .late k n q e (omega (arith, t)));
+        kind = g .kind;
       }
-  body k m i (Body.PhaseOne n d) e g = record { number = g .number; away = g .away; kind = g .kind }
-  body k m i (Body.PhaseTwo n (Told.Refresh q)) e (o, g) = (
-    o,
-    record {
-      seen = seen-same (m .destination) ∙ g .seen;
-      number =
-          let r : l (m .destination) .last .round ≤ withLast l a v (m .destination) .last .round = round-rises (m .destination) in
-          let j : n ≤ l (m .destination) .last .round = g .number in
-          omega arith;
-      late =
-          λ t.
-          let r : l (m .destination) .last .round ≤ withLast l a v (m .destination) .last .round = round-rises (m .destination) in
-          let j : n ≤ l (m .destination) .last .round = g .number in
-          let u : n ≡ l (m .destination) .last .round = omega arith in
-          below q (x .late k n q (sym (e ∙ ap (λ (y : Message). y .body) i)) (rw i at u));
-      kind = g .kind;
-    },
-  )
-  body k m i (Body.PhaseTwo n (Told.Terminate t)) e (o, g) = (
-    o,
-    (
-      quiet (g .0),
-      quiesced-all (λ s q. q ≤ t) (x .told k n t (sym (e ∙ ap (λ (y : Message). y .body) i))) (g .1),
-    ),
-  )
-  body k m i (Body.PhaseTwo n Told.Prepare) e (o, g) = (o, quiet g)
-  body k m i (Body.Answer n received q) e (o, g) = (o, λ j. figure (m .source) (sentFigures m received q) (g j))
+  told k n (Told.Terminate t) e g = (quiet (g .0), quiesced-all (λ s q. q ≤ t) (x .told k n t e) (g .1))
+  told k n Told.Prepare e g = quiet g
+
+  body : (k : ℕ) → BodyFine w l (w .mail k) (w .mail k .body) → BodyFine (withVisit w a v) (withLast l a v) (w .mail k) (w .mail k .body)
+  body k h =
+      let m = w .mail k in
+      record {
+        call =
+            λ c e.
+            let g = h .call c e in
+            record {
+              number = g .number;
+              edge = edge (m .source) (m .destination) (c .round) (g .edge);
+              times = below (c .quiesce) (x .calls k c e);
+              refresh-one = λ q r o n. g .refresh-one q r o (sym (seen-same (m .destination)) ∙ n);
+              bound = g .bound;
+            };
+        one = λ n d e. let g = h .one n d e in record { number = g .number; away = g .away; kind = g .kind };
+        two = λ n d e. (h .two n d e .0, told k n d e (h .two n d e .1));
+        answer = λ n r q e. (h .answer n r q e .0, λ j. figure (m .source) (sentFigures m r q) (h .answer n r q e .1 j));
+      }
 
   gone-other :
       (s : ℕ) → s ≢ a → put (w .visit) a v s .there ≡ false → SiteFine w l s
@@ -297,7 +291,7 @@ module _ (w : View) (l : Ledger) (a : ℕ) (v : Visit) (Needed : ℕ → Type 0)
             site-other s n y (h .sites s y))
             (same-or-other s a);
         posted = h .posted;
-        mail = λ k. body k (w .mail k) refl (w .mail k .body) refl (h .mail k);
+        mail = λ k. body k (h .mail k);
         passage =
             record {
               home = h .passage .home;
