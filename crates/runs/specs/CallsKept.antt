@@ -13,8 +13,8 @@ use Rattle.rules.specs.Parts.{isEmpty, newVisit, countSent, countReceived, plai
 use Rattle.runs.specs.Types.{Figures, Status, Visit, Call, Body, Message}
 use Rattle.runs.specs.Put.{put, put-same, put-other, put-all}
 use Rattle.runs.specs.View.{View, Past, Ledger, relast, firstSeen}
-use Rattle.runs.specs.Clauses.{Below, Quiet, InAnswer, EdgeFine, SiteFine, CallFine, receivedBy, sentBy, Holds}
-use Rattle.runs.specs.ClausesLaws.{call-says, bodyKind, empty-clause, call-clause}
+use Rattle.runs.specs.Clauses.{Below, Quiet, InAnswer, EdgeFine, SiteFine, CallFine, receivedBy, sentBy, Holds, bodyKind}
+use Rattle.runs.specs.ClausesLaws.{call-says, empty-clause, call-clause}
 use Rattle.runs.specs.Shrunk.{around}
 use Rattle.runs.specs.Touched.{figure-fine, one-more, Later, later-sent, later-received, touchedView, callTo, Touch, touched-below, touched-figure, edge-touched, touched}
 

@@ -2,7 +2,7 @@
 use Prim.Native.Nat.{ℕ, _+_, _<_, _≤_}
 use mathlib.Core.Path.{_≡_}
 use mathlib.Core.Logic.{_≢_, _⊎_}
-use mathlib.Core.Bool.{Bool, true, false, cond}
+use mathlib.Core.Bool.{Bool, true, false, cond, _&&_}
 use lib.Dec.{eqb}
 use lib.ListN.{length, getD}
 use Rattle.rules.specs.Loops.{oneIf, sumUpTo}
@@ -23,6 +23,14 @@ isBinding Kind.None = false
 isBinding (Kind.Refresh q r) = false
 isBinding Kind.Terminate = true
 isBinding Kind.Prepare = true
+
+-- what a message is: 0 nothing, 1 a call, 2 and 3 a round's two phases, 4 an answer
+abbrev pub bodyKind : Body → ℕ
+bodyKind Body.Empty = 0
+bodyKind (Body.Call c) = 1
+bodyKind (Body.PhaseOne n a) = 2
+bodyKind (Body.PhaseTwo n d) = 3
+bodyKind (Body.Answer n received q) = 4
 
 -- ---- releases: those of every visit that was ever there, and of every making call, that is a call to a site that has seen no visit
 
@@ -172,11 +180,7 @@ pub record FreeFine (w : View) (l : Ledger) : Type 0 where
 -- ---- balance: for each site, the calls received and in flight are at most the calls sent
 
 abbrev pub isCallTo : ℕ → ℕ → Body → Bool
-isCallTo d a Body.Empty = false
-isCallTo d a (Body.Call c) = eqb a d
-isCallTo d a (Body.PhaseOne n k) = false
-isCallTo d a (Body.PhaseTwo n k) = false
-isCallTo d a (Body.Answer n received q) = false
+isCallTo d a b = eqb (bodyKind b) 1 && eqb a d
 
 abbrev pub callsTo : View → ℕ → ℕ
 callsTo w d = sumUpTo (λ k. oneIf (isCallTo d (w .mail k .destination) (w .mail k .body))) 32

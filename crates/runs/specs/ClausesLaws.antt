@@ -6,7 +6,7 @@ use mathlib.Core.Logic.{_≢_}
 use mathlib.Core.Bool.{Bool, true, false, false≢true}
 use Rattle.runs.specs.Types.{Kind, Call, Asked, Told, Body, Message}
 use Rattle.runs.specs.View.{View, Ledger}
-use Rattle.runs.specs.Clauses.{isRefresh, isBinding, QuietMail, Quiet, CallFine, PhaseOneFine, LateFine, ToldFine, FigureFine, sentFigures, BodyFine, Holds}
+use Rattle.runs.specs.Clauses.{isRefresh, isBinding, QuietMail, Quiet, CallFine, PhaseOneFine, LateFine, ToldFine, FigureFine, sentFigures, BodyFine, Holds, bodyKind}
 
 -- a round that binds is no refresh
 pub binding-no-refresh : (k : Kind) → isBinding k ≡ true → isRefresh k ≡ true → ⊥
@@ -14,15 +14,6 @@ binding-no-refresh Kind.None b r = false≢true b
 binding-no-refresh (Kind.Refresh q x) b r = false≢true b
 binding-no-refresh Kind.Terminate b r = false≢true r
 binding-no-refresh Kind.Prepare b r = false≢true r
-
--- ---- bodies of different kinds are not the same
-
-abbrev pub bodyKind : Body → ℕ
-bodyKind Body.Empty = 0
-bodyKind (Body.Call c) = 1
-bodyKind (Body.PhaseOne n a) = 2
-bodyKind (Body.PhaseTwo n d) = 3
-bodyKind (Body.Answer n received q) = 4
 
 abbrev tellsRefresh : Told → Bool
 tellsRefresh (Told.Refresh q) = true

@@ -1,25 +1,20 @@
 -- No step puts a clock back, and an accepted step that acts at a site adds at least 1 to that site's clock. Assumes nothing.
 use Prim.Native.Nat.{ℕ, zero, suc, _+_, _≤_, _<_}
 use native.Mathlib.Omega.{arith}
-use mathlib.Core.Path.{_≡_, refl, sym, _∙_}
+use mathlib.Core.Path.{_≡_, sym, _∙_}
 use mathlib.Core.Logic.{⊎-elim}
-use mathlib.Core.Bool.{Bool, true, false, cond, _||_, true≢false, false≢true}
+use mathlib.Core.Bool.{Bool, true, false, _||_, true≢false, false≢true}
 use mathlib.Core.List.{List}
 use lib.Dec.{eqb, ltb}
 use borrow.Author.Tests.{eqb-false}
 use Rattle.rules.specs.declared.answers.Trip.{Trip}
-use Rattle.rules.specs.declared.answers.Check.{Check}
 use Rattle.rules.specs.Limits.{tickMost}
 use Rattle.rules.specs.LoopsLaws.{either, or-left, or-right}
 use Rattle.rules.specs.Tables.{siteAt}
 use Rattle.rules.specs.Ranges.{inRange}
-use Rattle.rules.specs.Answers.{isAccepted, firstOf, settleOf}
-use Rattle.rules.specs.AnswersLaws.{Fine, accepted-fine}
+use Rattle.rules.specs.Answers.{isAccepted}
 use Rattle.rules.specs.Checks.{badSite}
-use Rattle.rules.specs.Stations.{tickOf, sweepOf, isSwept, sweptSlot, crashOf, crashedSlot, recoverOf}
-use Rattle.rules.specs.Passages.{beginOf, abortOf, retireOf}
-use Rattle.rules.specs.Rounds.{openOf, refreshOf, terminateOf, prepareOf, askOf, closeOf, tellOf}
-use Rattle.rules.specs.Calls.{invokeOf, emptyOf, deliverCallOf, deliverPhaseOneOf, deliverPhaseTwoOf, deliverAnswerOf, deliverBodyOf, dropOf}
+use Rattle.rules.specs.Stations.{tickOf, isSwept, sweptSlot, crashedSlot}
 use Rattle.rules.specs.Machine.{lookOf, placesOf, seenOf, decideOf, stored, headOf, slotPlaces, sweepTurn, crashTurn, turnOf, turnsUpTo, turnCount, stepInRangeOf, stepOf}
 use Rattle.rules.specs.StoredLaws.{Sized, Placed, site-after-stored, site-after-stored-other}
 use Rattle.rules.specs.RangesLaws.{placed-places, placed-slots}
@@ -27,7 +22,7 @@ use Rattle.rules.specs.RangesKept.{turn-count-most}
 use Rattle.rules.specs.RefusedLaws.{decided-refused, turns-keep}
 use Rattle.rules.specs.Runs.{runOf, actsAtSite}
 use Rattle.rules.specs.Views.{settled-accepted, Clock, deedOf}
-use Rattle.runs.specs.Types.{Body, Tables, Step, Places, Seen, Outcome}
+use Rattle.runs.specs.Types.{Tables, Step, Places, Seen, Outcome}
 use Rattle.runs.specs.Put.{same-or-other}
 use Rattle.runs.specs.Sizes.{step-holds, run-holds, sized-head, sized-turn}
 

@@ -11,7 +11,7 @@ use Rattle.rules.specs.Parts.{isFree, isOver, isPhaseOne, withPhase, figuresAt,
 use Rattle.rules.specs.Rounds.{roundTold, closedPassage}
 use Rattle.runs.specs.Types.{Kind, Phase, Status, Call, Told, Body}
 use Rattle.runs.specs.View.{View, Ledger}
-use Rattle.runs.specs.Clauses.{isRefresh, isBinding, Below, QuietMail, Quiet, BodyFine, Holds}
+use Rattle.runs.specs.Clauses.{isRefresh, isBinding, Below, QuietMail, Quiet, Holds}
 use Rattle.runs.specs.ClausesLaws.{binding-no-refresh, call-says, late-says}
 use Rattle.runs.specs.RoundKept.{restated-kept}
 use Rattle.runs.specs.Closing.{closing-refresh, closing-making, closing-binding, closing-no-call}

@@ -12,7 +12,7 @@ use Rattle.runs.specs.Types.{Figures, Status, Passage, Visit, Call, Aske
 use Rattle.runs.specs.Plain.{when-true, when-false}
 use Rattle.runs.specs.Put.{put, put-same, put-all}
 use Rattle.runs.specs.View.{View, Ledger, noLedger, noted, relast, firstSeen}
-use Rattle.runs.specs.Clauses.{QuietMail, Quiet, sentFigures, InAnswer, FigureFine, PhaseOneFine, LateFine, Holds}
+use Rattle.runs.specs.Clauses.{Quiet, sentFigures, InAnswer, FigureFine, PhaseOneFine, LateFine, Holds}
 use Rattle.runs.specs.ClausesLaws.{binding-no-refresh, late-says, terminate-says, prepare-says}
 use Rattle.runs.specs.Shrunk.{shrunk}
 use Rattle.runs.specs.VisitKept.{withVisit, withLast}

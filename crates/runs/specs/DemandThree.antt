@@ -12,7 +12,7 @@ use Rattle.rules.specs.StoredLaws.{Sized}
 use Rattle.rules.specs.Machine.{headOf, isMessageOf, stepOf}
 use Rattle.rules.specs.Runs.{runOf, runRecordsOf, historyOf}
 use Rattle.rules.specs.declared.tables.Holder.{Holder}
-use Rattle.runs.specs.Types.{Status, Asked, Told, Body, Message, Tables, Step}
+use Rattle.runs.specs.Types.{Status, Told, Body, Message, Tables, Step}
 use Rattle.runs.specs.View.{viewOf}
 use Rattle.runs.specs.Steps.{ghostRun, head-accepted, stepsOf, records-are-steps}
 use Rattle.runs.specs.Sizes.{sized-start, sized-run, sized-from, sized-step}

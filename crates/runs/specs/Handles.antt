@@ -8,28 +8,25 @@ use mathlib.Core.List.{List, [], _∷_, _++_}
 use lib.Dec.{eqb, ltb}
 use borrow.Author.Tests.{eqb-true, eq-eqb, ne-eqb, ltb-false}
 use Rattle.rules.specs.declared.answers.Trip.{Trip}
-use Rattle.rules.specs.declared.answers.Check.{Check}
 use Rattle.rules.specs.Loops.{oneIf}
 use Rattle.rules.specs.LoopsLaws.{either, or-left, or-right, not-false, cond-keeps, and-right}
 use Rattle.rules.specs.Tables.{start, passageAt, slotOf, generationOf, handleOf, freeSlot, pastPassage}
 use Rattle.rules.specs.Ranges.{inRange}
-use Rattle.rules.specs.Answers.{isAccepted, answerValue, firstOf, settleOf}
+use Rattle.rules.specs.Answers.{isAccepted, answerValue}
 use Rattle.rules.specs.AnswersLaws.{accepted-fine, accepted-value}
 use Rattle.rules.specs.Parts.{isFree, isActive, abortedPassage}
 use Rattle.rules.specs.Checks.{badSite, badTimes}
-use Rattle.rules.specs.Stations.{tickOf, sweepOf, isSwept, sweptSlot, crashOf, losesHome, crashedSlot, recoverOf}
-use Rattle.rules.specs.Passages.{beginOf, abortOf, retireOf}
-use Rattle.rules.specs.Rounds.{openOf, refreshOf, terminateOf, prepareOf, askOf, closeOf, tellOf}
-use Rattle.rules.specs.Calls.{atHome, invokeOf, emptyOf, deliverCallOf, deliverPhaseOneOf, deliverPhaseTwoOf, deliverAnswerOf, deliverBodyOf, dropOf}
+use Rattle.rules.specs.Stations.{isSwept, sweptSlot, losesHome, crashedSlot}
+use Rattle.rules.specs.Passages.{beginOf, retireOf}
 use Rattle.rules.specs.Machine.{lookOf, placesOf, seenOf, remains, decideOf, stored, headOf, slotPlaces, sweepTurn, crashTurn, turnOf, turnsUpTo, turnCount, stepInRangeOf, stepOf}
 use Rattle.rules.specs.StoredLaws.{Sized, Placed, passage-after-stored, passage-after-stored-other}
 use Rattle.rules.specs.RangesLaws.{placed-places, placed-slots}
 use Rattle.rules.specs.RangesKept.{turn-count-most}
 use Rattle.rules.specs.RefusedLaws.{refused-leaves}
-use Rattle.rules.specs.Record.{rowOf, isNamed, flatOf, isStep}
+use Rattle.rules.specs.Record.{rowOf, isNamed, flatOf}
 use Rattle.rules.specs.Runs.{Entry, runOf, entryOf, entriesOf, historyOf}
 use Rattle.rules.specs.Views.{Generation, Handle, deedOf}
-use Rattle.runs.specs.Types.{Passage, Body, Tables, Step, Places, Seen, Outcome}
+use Rattle.runs.specs.Types.{Passage, Tables, Step, Places, Seen, Outcome}
 use Rattle.runs.specs.Put.{same-or-other}
 use Rattle.runs.specs.Steps.{head-accepted, run-on}
 use Rattle.runs.specs.Sizes.{sized-start, sized-run, sized-step, sized-head, sized-turn}

@@ -16,12 +16,11 @@ use Rattle.rules.specs.declared.answers.Check.{Check}
 use Rattle.rules.specs.LoopsLaws.{either, cond-keeps}
 use Rattle.rules.specs.Tables.{start, pastObject, siteAt, objectAt, passageAt, visitAt, bankAt, objectSite, slotOf}
 use Rattle.rules.specs.Ranges.{inRange}
-use Rattle.rules.specs.Answers.{isAccepted, firstOf, settleOf}
+use Rattle.rules.specs.Answers.{firstOf, settleOf}
 use Rattle.rules.specs.Parts.{nextClock, isHeldBy, taken, operated, unheld, freed, restored, eachOf, toldVisit, toldObjects}
-use Rattle.rules.specs.Stations.{tickOf, sweepOf, isSwept, sweptSlot, crashOf, crashedSlot, recoverOf}
-use Rattle.rules.specs.Passages.{beginOf, abortOf, retireOf}
-use Rattle.rules.specs.Rounds.{roundTold, closed, openOf, refreshOf, terminateOf, prepareOf, askOf, closeOf, tellOf}
-use Rattle.rules.specs.Calls.{mailSlot, calledObject, called, invokeOf, emptyOf, deliverCallOf, deliverPhaseOneOf, deliverPhaseTwoOf, deliverAnswerOf, deliverBodyOf, dropOf}
+use Rattle.rules.specs.Stations.{isSwept, sweptSlot, crashedSlot}
+use Rattle.rules.specs.Rounds.{roundTold, closed, closeOf}
+use Rattle.rules.specs.Calls.{mailSlot, calledObject, called, deliverCallOf, deliverPhaseOneOf, deliverPhaseTwoOf, deliverBodyOf}
 use Rattle.rules.specs.Machine.{lookOf, placesOf, seenOf, bodyBank, decideOf, stored, headOf, slotPlaces, sweepTurn, crashTurn, turnOf, turnsUpTo, turnCount, stepInRangeOf, stepOf}
 use Rattle.rules.specs.StoredLaws.{Sized, Placed, visit-after-stored}
 use Rattle.rules.specs.RangesLaws.{placed-places, placed-slots}

@@ -28,13 +28,10 @@ use Rattle.runs.specs.Types.{Site, Kind, Visit, Call, Asked, Told, Body,
 use Rattle.runs.specs.TimesKept.{asked-says}
 use Rattle.runs.specs.Banks.{let-go-holder, taken-holder, each-at}
 use Rattle.runs.specs.HeldStore.{GoesHome, Held, Keeps}
+use Rattle.runs.specs.Clauses.{bodyKind}
 
 abbrev isCall : Body → Bool
-isCall Body.Empty = false
-isCall (Body.Call c) = true
-isCall (Body.PhaseOne n a) = false
-isCall (Body.PhaseTwo n d) = false
-isCall (Body.Answer n r q) = false
+isCall b = eqb (bodyKind b) 1
 
 pub no-call : (m : Message) → isCall (m .body) ≡ false → (c : Call) → m .body ≡ Body.Call c → GoesHome m c
 no-call m f c e = absurd (true≢false (sym (ap isCall e) ∙ f))

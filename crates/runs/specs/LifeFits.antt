@@ -2,7 +2,7 @@
 use Prim.Native.Nat.{ℕ, _%_, _<_, _≤_}
 use native.Mathlib.Omega.{arith}
 use mathlib.Core.Path.{_≡_, refl, sym, ap, _∙_, subst}
-use mathlib.Core.Logic.{_≢_, ⊎-elim, _⊎_, inl}
+use mathlib.Core.Logic.{⊎-elim, inl}
 use mathlib.Core.Bool.{true, false, not, _||_, true≢false, false≢true}
 use lib.Dec.{ltb}
 use borrow.Author.Tests.{ltb-false}

@@ -11,8 +11,8 @@ use Rattle.rules.specs.Rounds.{askBody, tellBody}
 use Rattle.runs.specs.Types.{Figures, Kind, Phase, Status, Call, Body, Message}
 use Rattle.runs.specs.Put.{put, put-all}
 use Rattle.runs.specs.View.{View, Ledger}
-use Rattle.runs.specs.Clauses.{isRefresh, isBinding, Below, QuietMail, Quiet, InAnswer, Figure, FigureFine, EdgeFine, SiteFine, ToldFine, BodyFine, Posted, isCallTo, callsTo, Balanced, Holds}
-use Rattle.runs.specs.ClausesLaws.{bodyKind, one-quiet, two-quiet, answer-quiet, one-clause, two-clause, answer-clause}
+use Rattle.runs.specs.Clauses.{isRefresh, isBinding, Below, QuietMail, Quiet, InAnswer, Figure, FigureFine, EdgeFine, SiteFine, ToldFine, BodyFine, Posted, isCallTo, callsTo, Balanced, Holds, bodyKind}
+use Rattle.runs.specs.ClausesLaws.{one-quiet, two-quiet, answer-quiet, one-clause, two-clause, answer-clause}
 use Rattle.runs.specs.Shrunk.{around, sum-le, body-around, passage-around, site-around}
 
 -- the view with this message at slot k

@@ -6,10 +6,10 @@ use mathlib.Core.Logic.{_≢_, ⊎-elim, _⊎_, inl, inr}
 use mathlib.Core.Bool.{true, false, true≢false, false≢true}
 use Rattle.rules.specs.Parts.{isOver, isPhaseOne, isPhaseTwo, figuresOf, hasAnswered, withAnswer, openedRound, askedOf, askedVisit, askedStatus, withPhase}
 use Rattle.rules.specs.Rounds.{openedPassage}
-use Rattle.runs.specs.Types.{Figures, Kind, Phase, Status, Visit, Call, Told, Body, Message}
+use Rattle.runs.specs.Types.{Figures, Kind, Phase, Status, Visit, Told, Body, Message}
 use Rattle.runs.specs.Put.{put, put-same}
 use Rattle.runs.specs.View.{View, Ledger, relast}
-use Rattle.runs.specs.Clauses.{isBinding, Below, Quiet, InAnswer, Figure, FigureFine, EdgeFine, SiteFine, ToldFine, BodyFine, Holds}
+use Rattle.runs.specs.Clauses.{isBinding, Below, Quiet, Figure, FigureFine, EdgeFine, SiteFine, ToldFine, BodyFine, Holds}
 use Rattle.runs.specs.Masks.{nobody-answers, answered-here}
 use Rattle.runs.specs.RoundKept.{alikeHere, restated-kept, answer-kept}
 use Rattle.runs.specs.VisitKept.{withVisit, withLast}

@@ -1,8 +1,8 @@
 -- What is known along a run is what the list of accepted steps says; at the moment no time of the passage is above T. Assumes nothing.
-use Prim.Native.Nat.{ℕ, zero, suc, _-_, _<_, _≤_, max, zero-le}
+use Prim.Native.Nat.{ℕ, zero, suc, _<_, _≤_, max, zero-le}
 use native.Mathlib.Omega.{arith}
 use mathlib.Core.Path.{_≡_, refl, sym, ap, _∙_}
-use mathlib.Core.Logic.{⊎-elim, _⊎_}
+use mathlib.Core.Logic.{⊎-elim}
 use mathlib.Core.Bool.{Bool, true, false, cond, not, _||_}
 use mathlib.Core.List.{List, [], _∷_}
 use Rattle.rules.specs.Loops.{mostUpTo}
@@ -13,7 +13,7 @@ use Rattle.rules.specs.Answers.{isAccepted}
 use Rattle.rules.specs.Machine.{isMessageOf, stepOf}
 use Rattle.rules.specs.Runs.{runOf, historyOf}
 use Rattle.rules.specs.declared.answers.Trip.{Trip}
-use Rattle.runs.specs.Types.{Status, Visit, Asked, Told, Body, Tables, Step, Outcome}
+use Rattle.runs.specs.Types.{Status, Visit, Tables, Step, Outcome}
 use Rattle.runs.specs.View.{viewOf}
 use Rattle.runs.specs.Clauses.{Holds}
 use Rattle.runs.specs.Steps.{ghostTurns, ghostStep, ghostRun, ghost-accepted, ghost-refused}

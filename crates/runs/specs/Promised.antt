@@ -15,10 +15,10 @@ use Rattle.rules.specs.Tables.{start, passageAt, visitAt, messageAt, slotOf}
 use Rattle.rules.specs.Ranges.{inRange}
 use Rattle.rules.specs.Answers.{isAccepted, firstOf, settleOf}
 use Rattle.rules.specs.Parts.{whereThere, toldOf, toldVisit}
-use Rattle.rules.specs.Stations.{tickOf, sweepOf, sweptSlot, crashOf, losesHome, crashedSlot, recoverOf}
-use Rattle.rules.specs.Passages.{beginOf, abortOf, retireOf}
-use Rattle.rules.specs.Rounds.{openOf, refreshOf, terminateOf, prepareOf, askOf, closeOf, tellOf}
-use Rattle.rules.specs.Calls.{invokeOf, emptyOf, deliverCallOf, deliverPhaseOneOf, deliverPhaseTwoOf, deliverAnswerOf, deliverBodyOf, dropOf}
+use Rattle.rules.specs.Stations.{sweptSlot, losesHome, crashedSlot}
+use Rattle.rules.specs.Passages.{beginOf, abortOf}
+use Rattle.rules.specs.Rounds.{openOf, terminateOf, prepareOf, closeOf}
+use Rattle.rules.specs.Calls.{deliverCallOf, deliverPhaseOneOf, deliverPhaseTwoOf, deliverBodyOf}
 use Rattle.rules.specs.Machine.{lookOf, placesOf, seenOf, decideOf, stored, headOf, slotPlaces, sweepTurn, crashTurn, turnOf, turnsUpTo, turnCount, stepInRangeOf, stepOf}
 use Rattle.rules.specs.StoredLaws.{Sized, Placed, visit-place-same, visit-after-stored, visit-after-stored-other}
 use Rattle.rules.specs.RangesLaws.{placed-places, placed-slots}

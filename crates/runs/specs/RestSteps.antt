@@ -15,12 +15,11 @@ use Rattle.rules.specs.Tables.{pastObject, objectAt, bankAt, objectSite, slotOf
 use Rattle.rules.specs.Ranges.{inRange}
 use Rattle.rules.specs.RangesLaws.{placed-places, placed-slots}
 use Rattle.rules.specs.RangesKept.{turn-count-most}
-use Rattle.rules.specs.Answers.{isAccepted, firstOf, settleOf}
+use Rattle.rules.specs.Answers.{firstOf, settleOf}
 use Rattle.rules.specs.Parts.{nextClock, freed, restored, largestQuiesce, toldObjects, toldOf}
-use Rattle.rules.specs.Stations.{tickOf, sweepOf, crashOf, recoverOf, isSwept, sweptSlot, crashedSlot}
-use Rattle.rules.specs.Passages.{beginOf, abortOf, retireOf}
-use Rattle.rules.specs.Rounds.{refreshOf, terminateOf, prepareOf, openOf, askOf, closeOf, tellOf, closed, roundTold}
-use Rattle.rules.specs.Calls.{mailClock, mailSlot, calledObject, called, invokeOf, emptyOf, deliverCallOf, deliverPhaseOneOf, deliverPhaseTwoOf, deliverAnswerOf, deliverBodyOf, dropOf}
+use Rattle.rules.specs.Stations.{isSwept, sweptSlot, crashedSlot}
+use Rattle.rules.specs.Rounds.{closeOf, closed, roundTold}
+use Rattle.rules.specs.Calls.{mailClock, mailSlot, calledObject, called, deliverCallOf, deliverPhaseOneOf, deliverPhaseTwoOf, deliverBodyOf}
 use Rattle.rules.specs.Machine.{lookOf, placesOf, seenOf, decideOf, stored, headOf, slotPlaces, sweepTurn, crashTurn, turnOf, turnsUpTo, turnCount, stepInRangeOf, stepOf}
 use Rattle.rules.specs.StoredLaws.{Sized, Placed}
 use Rattle.rules.specs.Views.{settled, Objects, Mail, mailOf, deedOf}

@@ -14,7 +14,7 @@ use Rattle.rules.specs.Tables.{objectAt, start}
 use Rattle.rules.specs.Parts.{isUnheld, taken, operated, unheld, freed, restored}
 use Rattle.rules.specs.Machine.{stepOf}
 use Rattle.runs.specs.Orphans.{tellsPrepare}
-use Rattle.runs.specs.Types.{Kind, Call, Told, Body, Tables, Step, Seen}
+use Rattle.runs.specs.Types.{Kind, Call, Body, Tables, Step, Seen}
 
 -- ---- the width at rest, along a run
 

@@ -1,6 +1,6 @@
 -- What holds of a passage in every run, by name, for theorems to come: its times, what is gone, what a closed round means. Assumes nothing.
 use Prim.Native.Nat.{ℕ, _<_, _≤_}
-use mathlib.Core.Path.{_≡_, refl, sym, ap, _∙_, subst}
+use mathlib.Core.Path.{_≡_, refl, sym, ap, _∙_}
 use mathlib.Core.Logic.{_≢_, _⊎_}
 use mathlib.Core.Bool.{true, false, true≢false}
 use mathlib.Core.List.{List}
@@ -9,7 +9,7 @@ use Rattle.rules.specs.Parts.{isEmpty, hasAnswered, isClosed}
 use Rattle.rules.specs.Runs.{runOf}
 use Rattle.runs.specs.Types.{Phase, Status, Call, Body, Message, Tables, Step}
 use Rattle.runs.specs.View.{Ledger, viewOf}
-use Rattle.runs.specs.Clauses.{isRefresh, isBinding, Below, QuietMail, Quiet, Holds}
+use Rattle.runs.specs.Clauses.{isRefresh, isBinding, Below, Quiet, Holds}
 use Rattle.runs.specs.ClausesLaws.{call-says}
 use Rattle.runs.specs.Store.{own-mail, own-body}
 use Rattle.runs.specs.Closing.{closing-refresh, closing-binding}

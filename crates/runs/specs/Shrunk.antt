@@ -2,7 +2,7 @@
 use Prim.Native.Nat.{ℕ, zero, suc, _≤_}
 use native.Mathlib.Omega.{arith}
 use mathlib.Core.Path.{_≡_, sym, ap, _∙_}
-use mathlib.Core.Logic.{_≢_, ⊎-elim, _⊎_, inl, inr}
+use mathlib.Core.Logic.{⊎-elim, _⊎_, inl, inr}
 use mathlib.Core.Bool.{true, false, true≢false}
 use Rattle.rules.specs.Loops.{oneIf, sumUpTo}
 use Rattle.rules.specs.LoopsLaws.{either}
@@ -10,8 +10,8 @@ use Rattle.rules.specs.Parts.{isEmpty}
 use Rattle.runs.specs.Types.{Figures, Visit, Body, Message}
 use Rattle.runs.specs.View.{View, Ledger}
 use Rattle.runs.specs.Same.{body-kept, site-kept}
-use Rattle.runs.specs.ClausesLaws.{bodyKind, empty-clause, empty-quiet}
-use Rattle.runs.specs.Clauses.{Below, Quiet, Figure, FigureFine, EdgeFine, SiteFine, BodyFine, PassageFine, FreeFine, isCallTo, callsTo, Balanced, Holds}
+use Rattle.runs.specs.ClausesLaws.{empty-clause, empty-quiet}
+use Rattle.runs.specs.Clauses.{Below, Quiet, Figure, FigureFine, EdgeFine, SiteFine, BodyFine, PassageFine, FreeFine, isCallTo, callsTo, Balanced, Holds, bodyKind}
 
 -- a sum of smaller numbers is smaller
 pub sum-le : (f g : ℕ → ℕ) (n : ℕ) → ((i : ℕ) → f i ≤ g i) → sumUpTo f n ≤ sumUpTo g n

@@ -14,12 +14,12 @@ use Rattle.rules.specs.LoopsLaws.{either, or-left, or-right, not-false, cond-ke
 use Rattle.rules.specs.Tables.{start, objectAt, passageAt, visitAt, messageAt, objectSite, slotOf}
 use Rattle.rules.specs.Ranges.{inRange}
 use Rattle.rules.specs.Answers.{isAccepted, firstOf, settleOf}
-use Rattle.rules.specs.AnswersLaws.{Fine, accepted-fine}
+use Rattle.rules.specs.AnswersLaws.{Fine}
 use Rattle.rules.specs.Parts.{isFree, abortedPassage, whereThere, toldOf, toldVisit, askedVisit}
-use Rattle.rules.specs.Stations.{tickOf, sweepOf, crashChecks, crashOf, losesHome, crashedSlot, recoverOf}
-use Rattle.rules.specs.Passages.{beginOf, abortOf, retireOf}
-use Rattle.rules.specs.Rounds.{openOf, refreshOf, terminateOf, prepareOf, askOf, closeOf, tellOf}
-use Rattle.rules.specs.Calls.{invokeOf, emptyOf, deliverCallOf, deliverPhaseOneOf, deliverPhaseTwoOf, deliverAnswerOf, deliverBodyOf, dropOf}
+use Rattle.rules.specs.Stations.{crashChecks, crashOf, losesHome, crashedSlot}
+use Rattle.rules.specs.Passages.{beginOf, abortOf}
+use Rattle.rules.specs.Rounds.{openOf, terminateOf, prepareOf, closeOf}
+use Rattle.rules.specs.Calls.{deliverCallOf, deliverPhaseOneOf, deliverPhaseTwoOf, deliverBodyOf}
 use Rattle.rules.specs.Machine.{lookOf, placesOf, seenOf, decideOf, stored, headOf, slotPlaces, sweepTurn, crashTurn, turnOf, turnsUpTo, turnCount, stepInRangeOf, stepOf}
 use Rattle.rules.specs.StoredLaws.{Sized, Placed, sized-after-stored, passage-after-stored, passage-after-stored-other}
 use Rattle.rules.specs.RangesLaws.{placed-places, placed-slots}

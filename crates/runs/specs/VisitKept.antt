@@ -7,7 +7,7 @@ use mathlib.Core.Bool.{true, false, true≢false}
 use Rattle.rules.specs.Loops.{sumUpTo}
 use Rattle.rules.specs.LoopsLaws.{sum-same}
 use Rattle.rules.specs.Parts.{largestQuiesce}
-use Rattle.runs.specs.Types.{Figures, Kind, Phase, Visit, Call, Told, Body, Message}
+use Rattle.runs.specs.Types.{Figures, Kind, Phase, Visit, Call, Told, Body}
 use Rattle.runs.specs.Put.{put, put-same, put-other, put-all, same-or-other}
 use Rattle.runs.specs.View.{View, Ledger, relast}
 use Rattle.runs.specs.Clauses.{isBinding, Below, QuietMail, Quiet, FigureFine, EdgeFine, SiteFine, BodyFine, receivedBy, sentBy, sentFigures, Balanced, Holds, ToldFine}

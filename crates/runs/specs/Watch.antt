@@ -3,7 +3,7 @@ use Prim.Native.Nat.{ℕ, _≤_}
 use mathlib.Core.Path.{_≡_}
 use mathlib.Core.Logic.{_⊎_}
 use mathlib.Core.Bool.{Bool, true, false}
-use Rattle.runs.specs.Types.{Kind, Phase, Status, Visit, Asked, Told, Body}
+use Rattle.runs.specs.Types.{Kind, Phase, Status, Visit, Asked, Body}
 use Rattle.runs.specs.Orphans.{bodyLatest, tellsPrepare}
 use Rattle.runs.specs.View.{View}
 
