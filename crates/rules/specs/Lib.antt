@@ -25,6 +25,9 @@ pub mod RecordLaws
 pub mod RangesLaws
 pub mod RangesFits
 pub mod RangesKept
+pub mod StoredObjects
+pub mod EffectsLaws
+pub mod EffectsLife
 pub mod Runs
 pub mod Views
 pub mod Sheet
