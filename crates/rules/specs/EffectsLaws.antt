@@ -75,7 +75,9 @@ module _ (t : Tables) (at : Places) (left : Seen) (b : Placed at) where
       record {
         sites = site-after-stored-other t at left;
         passages = passage-after-stored-other t at left;
-        visits = λ s p l n. visit-after-stored-other t at left s p (λ e. n (visit-place-same s p _ _ l (b .slot) e .0) (visit-place-same s p _ _ l (b .slot) e .1));
+        visits = λ s p l n.
+            visit-after-stored-other t at left s p λ e.
+            let w = visit-place-same s p _ _ l (b .slot) e in n (w .0) (w .1);
         messages = message-after-stored-other t at left;
         objects = object-after-stored-other t at left;
       }
@@ -131,26 +133,31 @@ pub record Done (t t′ : Tables) (v : ℕ) (at : Places) (cs : List Check) (res
   pub sized : Sized t
   pub placed : Placed at
 
--- by the decision that it comes to at its places
+-- by the checks that it tries, the value that it gives and the records that it leaves, each read off what it saw
 pub done-at :
-    (t : Tables) (step : Step) (v : ℕ) (at : Places) (cs : List Check) (result : ℕ) (left : Seen) → lookOf step .trip ≡ Trip.Nowhere
+    (t : Tables) (step : Step) (v : ℕ) (at : Places) (checks : Seen → List Check) (result : Seen → ℕ) (left : Seen → Seen)
+    → lookOf step .trip ≡ Trip.Nowhere
     → Sized t
     → stepOf t step .answer ≡ Answer.Accepted v
     → placesOf t (lookOf step) ≡ at
-    → decideOf step (at .message) (remains t (at .slot)) (seenOf t at) ≡ settleOf (record { answer = firstOf cs result; left = left }) (seenOf t at)
-    → Done t (stepOf t step .tables) v at cs result left
-done-at t step v at cs result left f z a p d =
+    → ((seen : Seen)
+    → decideOf step (at .message) (remains t (at .slot)) seen
+    ≡ settleOf (record { answer = firstOf (checks seen) (result seen); left = left seen }) seen)
+    → Done t (stepOf t step .tables) v at (checks (seenOf t at)) (result (seenOf t at)) (left (seenOf t at))
+done-at t step v at checks result left f z a p decides =
+    let seen : Seen = seenOf t at in
+    let d : Decision = record { answer = firstOf (checks seen) (result seen); left = left seen } in
     let h : stepOf t step ≡ headAt t step at =
     flat-head t step f (accepted-in-range t step (ap isAccepted a)) ∙ head-at-places t step ∙ ap (headAt t step) p in
-    let e : firstOf cs result ≡ Answer.Accepted v =
-    sym (ap (λ (x : Decision). x .answer) d) ∙ sym (ap (λ (o : Outcome). o .answer) h) ∙ a in
-    let b : isAccepted (firstOf cs result) ≡ true = ap isAccepted e in
+    let e : d .answer ≡ Answer.Accepted v =
+    sym (ap (λ (x : Decision). x .answer) (decides seen)) ∙ sym (ap (λ (o : Outcome). o .answer) h) ∙ a in
+    let b : isAccepted (d .answer) ≡ true = ap isAccepted e in
     record {
-      fine = accepted-fine cs result b;
-      value = ap answerValue (sym e ∙ accepted-value cs result b);
+      fine = accepted-fine (checks seen) (result seen) b;
+      value = ap answerValue (sym e ∙ accepted-value (checks seen) (result seen) b);
       tables =
           ap (λ (o : Outcome). o .tables) h
-          ∙ ap (stored t at) (ap (λ (x : Decision). x .left) d ∙ settle-accepted (record { answer = firstOf cs result; left = left }) (seenOf t at) b);
+          ∙ ap (stored t at) (ap (λ (x : Decision). x .left) (decides seen) ∙ settle-accepted d seen b);
       sized = z;
       placed = subst Placed p (placed-places t (lookOf step));
     }

@@ -1,21 +1,24 @@
 -- What an accepted begin, abort and retire needed and left. Assumes nothing.
-use Prim.Native.Nat.{ℕ, _+_, _%_, _≤_, _<_}
+use Prim.Native.Nat.{ℕ, _%_, _≤_, _<_}
 use native.Mathlib.Omega.{arith}
-use mathlib.Core.Path.{_≡_, refl, ap, subst}
-use mathlib.Core.Bool.{Bool, true, _||_}
-use lib.Dec.{leb, ltb}
+use mathlib.Core.Path.{_≡_, refl, ap, _∙_}
+use mathlib.Core.Bool.{true, false, _||_}
+use lib.Dec.{ltb}
 use borrow.Author.Tests.{ltb-false, leb-false}
-use Rattle.rules.specs.Types.{Tables, Step, Answer, Places, Seen}
+use Rattle.rules.specs.Types.{Passage, Tables, Step, Answer, MailAt, Places}
 use Rattle.rules.specs.Limits.{timeMost}
-use Rattle.rules.specs.LoopsLaws.{not-false}
-use Rattle.rules.specs.Tables.{siteAt, passageAt, handleOf, slotOf, generationOf}
-use Rattle.rules.specs.Parts.{nextClock, isFree, newVisit}
+use Rattle.rules.specs.Loops.{someUpTo}
+use Rattle.rules.specs.LoopsLaws.{not-false, some-none}
+use Rattle.rules.specs.Tables.{siteAt, passageAt, visitAt, messageAt, handleOf, slotOf, generationOf, freeSlot}
+use Rattle.rules.specs.Answers.{isAccepted}
+use Rattle.rules.specs.Parts.{nextClock, isFree, isRunning, isOver, abortedPassage, whereThere, quieted, newVisit}
 use Rattle.rules.specs.Checks.{badSite, badTimes}
-use Rattle.rules.specs.Passages.{beginChecks, begunPassage, begun, beginOf}
-use Rattle.rules.specs.Machine.{lookOf, placesOf, seenOf, decideOf, stepOf}
-use Rattle.rules.specs.StoredLaws.{Sized, Placed}
+use Rattle.rules.specs.Passages.{beginChecks, begunPassage, begun, beginOf, abortChecks, aborted, abortOf, retireChecks, nextGeneration, retired, retireOf}
+use Rattle.rules.specs.Machine.{lookOf, placesOf, seenOf, isMessageOf, remains, decideOf, stepOf}
+use Rattle.rules.specs.StoredLaws.{Sized}
 use Rattle.rules.specs.RangesLaws.{neither}
-use Rattle.rules.specs.EffectsLaws.{OnlyPassage, OnlyVisit, ClockMoves, clock-moves, Done, done-at, only-passage, only-visit, messages-stay, objects-stay}
+use Rattle.rules.specs.EffectsLaws.{OnlyPassage, OnlyVisit, ClockMoves, accepted-in-range, Done, done-at, only-passage, only-visit, sites-stay, visits-stay, messages-stay, objects-stay, clock-moves}
+use Rattle.rules.specs.EffectsPlaces.{home-places, given-places, InUse, in-use}
 
 -- ---- 2. begin
 
@@ -38,16 +41,19 @@ pub record Begun (t t′ : Tables) (home slot q r v : ℕ) : Type 0 where
 module _ (t : Tables) (home slot q r v : ℕ) (z : Sized t) (a : stepOf t (Step.Begin home slot q r) .answer ≡ Answer.Accepted v) where
   begin-done :
       (at : Places) → placesOf t (lookOf (Step.Begin home slot q r)) ≡ at
-      → Done t (stepOf t (Step.Begin home slot q r) .tables) v at (beginChecks home slot q r (seenOf t at)) (handleOf slot (passageAt t (at .slot) .generation)) (begun home q r (nextClock (siteAt t (at .site))) (seenOf t at))
+      → Done t (stepOf t (Step.Begin home slot q r) .tables) v at (beginChecks home slot q r (seenOf t at))
+      (handleOf slot (passageAt t (at .slot) .generation))
+      (begun home q r (nextClock (siteAt t (at .site))) (seenOf t at))
   unfolding decideOf beginOf
-  begin-done at p = done-at t _ v at _ _ _ refl z a p refl
+  begin-done at p =
+      done-at t (Step.Begin home slot q r) v at (beginChecks home slot q r) (λ seen. handleOf slot (seen .passage .generation))
+      (λ seen. begun home q r (nextClock (seen .site)) seen) refl z a p (λ seen. refl)
 
   begin-places :
       home < 8 → slot < 16
       → placesOf t (lookOf (Step.Begin home slot q r)) ≡ record { site = home; slot = slot; bank = home; message = 0 }
-  unfolding placesOf
   begin-places h s =
-      let i : home % 8 ≡ home = omega arith in let j : slot % 16 ≡ slot = omega arith in rw (i, j)
+      let i : slot % 16 ≡ slot = omega arith in given-places t MailAt.Nowhere slot home h ∙ (rw i)
 
   pub begin-effects : Begun t (stepOf t (Step.Begin home slot q r) .tables) home slot q r v
   begin-effects =
@@ -73,3 +79,74 @@ module _ (t : Tables) (home slot q r v : ℕ) (z : Sized t) (a : stepOf t (Step.
         messages = messages-stay d refl;
         objects = objects-stay d refl;
       }
+
+-- ---- 10. abort: the passage that the handle's slot holds, in use, is p
+
+pub record Aborted (t t′ : Tables) (h slot : ℕ) (p : Passage) (v : ℕ) : Type 0 where
+  pub names : InUse h p
+  pub running : isRunning (p .status) ≡ true
+  pub value : v ≡ 0
+  pub clock : ClockMoves t t′ (p .home) (nextClock (siteAt t (p .home)))
+  pub passage : OnlyPassage t t′ slot (abortedPassage p)
+  pub visit :
+      OnlyVisit t t′ (p .home) slot
+      (whereThere (visitAt t (p .home) slot)
+      (quieted (visitAt t (p .home) slot) (nextClock (siteAt t (p .home))) false (visitAt t (p .home) slot .dead)))
+  pub messages : t′ .messages ≡ t .messages
+  pub objects : t′ .objects ≡ t .objects
+
+pub abort-effects :
+    (t : Tables) (h v : ℕ) → Sized t → stepOf t (Step.Abort h) .answer ≡ Answer.Accepted v
+    → Aborted t (stepOf t (Step.Abort h) .tables) h (slotOf h) (passageAt t (slotOf h)) v
+unfolding decideOf abortOf
+abort-effects t h v z a =
+    let p = home-places t MailAt.Nowhere h (accepted-in-range t (Step.Abort h) (ap isAccepted a)) in
+    let d =
+    done-at t (Step.Abort h) v _ (abortChecks h) (λ seen. 0) (λ seen. aborted (nextClock (seen .site)) seen) refl z a p (λ seen. refl) in
+    record {
+      names = in-use h _ (d .fine .fields) (d .fine .found);
+      running = not-false _ (d .fine .state);
+      value = d .value;
+      clock = clock-moves d _ refl (d .fine .up) (d .fine .clock);
+      passage = only-passage d;
+      visit = only-visit d;
+      messages = messages-stay d refl;
+      objects = objects-stay d refl;
+    }
+
+-- ---- 16. retire
+
+pub record Retired (t t′ : Tables) (h slot : ℕ) (p : Passage) (v : ℕ) : Type 0 where
+  pub names : InUse h p
+  pub over : isOver (p .status) ≡ true
+  -- no visit and no message of it remained
+  pub no-visit : (s : ℕ) → s < 8 → visitAt t s slot .there ≡ false
+  pub no-message : (m : ℕ) → m < 32 → isMessageOf slot (messageAt t m) ≡ false
+  pub value : v ≡ 0
+  pub sites : t′ .sites ≡ t .sites
+  pub passage : OnlyPassage t t′ slot (freeSlot (nextGeneration (p .generation)))
+  pub visits : t′ .visits ≡ t .visits
+  pub messages : t′ .messages ≡ t .messages
+  pub objects : t′ .objects ≡ t .objects
+
+pub retire-effects :
+    (t : Tables) (h v : ℕ) → Sized t → stepOf t (Step.Retire h) .answer ≡ Answer.Accepted v
+    → Retired t (stepOf t (Step.Retire h) .tables) h (slotOf h) (passageAt t (slotOf h)) v
+unfolding decideOf retireOf remains
+retire-effects t h v z a =
+    let p = home-places t MailAt.Nowhere h (accepted-in-range t (Step.Retire h) (ap isAccepted a)) in
+    let d = done-at t (Step.Retire h) v _ (retireChecks h (remains t (slotOf h))) (λ seen. 0) retired refl z a p (λ seen. refl) in
+    neither (d .fine .state) λ o r.
+    neither {a = someUpTo (λ s. visitAt t s (slotOf h) .there) 8} r λ s m.
+    record {
+      names = in-use h _ (d .fine .fields) (d .fine .found);
+      over = not-false _ o;
+      no-visit = some-none _ 8 s;
+      no-message = some-none _ 32 m;
+      value = d .value;
+      sites = sites-stay d refl;
+      passage = only-passage d;
+      visits = visits-stay d refl;
+      messages = messages-stay d refl;
+      objects = objects-stay d refl;
+    }

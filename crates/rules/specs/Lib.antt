@@ -27,7 +27,9 @@ pub mod RangesFits
 pub mod RangesKept
 pub mod StoredObjects
 pub mod EffectsLaws
+pub mod EffectsPlaces
 pub mod EffectsLife
+pub mod EffectsRounds
 pub mod Runs
 pub mod Views
 pub mod Sheet
