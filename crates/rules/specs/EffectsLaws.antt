@@ -1,15 +1,15 @@
 -- What an accepted step without turns leaves: its places hold the records that it decided, and every other place is as it was.
 -- Every step but sweep and crash is such a step. The files Effects.. say it of each step in its own words. Assumes nothing.
-use Prim.Native.Nat.{ℕ, _%_, _≤_, _<_}
+use Prim.Native.Nat.{ℕ, _/_, _%_, _≤_, _<_}
 use native.Mathlib.Omega.{arith}
 use mathlib.Core.Path.{_≡_, refl, sym, ap, _∙_, subst}
 use mathlib.Core.Logic.{_≢_, ⊎-elim}
 use mathlib.Core.Bool.{true, false, not, false≢true}
 use mathlib.Core.List.{List}
-use lib.Dec.{ltb}
-use lib.ListN.{getD}
-use lib.Seq.{set-getD}
-use borrow.Author.Tests.{ltb-false}
+use lib.Dec.{ltb, eqb}
+use lib.ListN.{getD, set}
+use lib.Seq.{getD-set-same, getD-set-other, set-getD}
+use borrow.Author.Tests.{ltb-false, eqb-true, eqb-false}
 use Rattle.rules.specs.Types.{Site, Object, Passage, Visit, Message, Tables, Step, Answer, Check, Trip, Places, Seen, Decision, Outcome}
 use Rattle.rules.specs.Limits.{clockMost}
 use Rattle.rules.specs.Tables.{pastSite, pastObject, pastPassage, pastMessage, siteAt, objectAt, passageAt, visitAt, messageAt, bankAt, objectSite}
@@ -107,6 +107,18 @@ head-at-places : (t : Tables) (step : Step) → headOf t step ≡ headAt t step 
 unfolding headOf
 head-at-places t step = refl
 
+accepted-head :
+    (t : Tables) (step : Step) → lookOf step .trip ≡ Trip.Nowhere → isAccepted (stepOf t step .answer) ≡ true
+    → stepOf t step ≡ headAt t step (placesOf t (lookOf step))
+accepted-head t step f a = flat-head t step f (accepted-in-range t step a) ∙ head-at-places t step
+
+-- its decision was accepted with the same value
+pub accepted-decided :
+    (t : Tables) (step : Step) (v : ℕ) → lookOf step .trip ≡ Trip.Nowhere → stepOf t step .answer ≡ Answer.Accepted v
+    → let at : Places = placesOf t (lookOf step) in
+    decideOf step (at .message) (remains t (at .slot)) (seenOf t at) .answer ≡ Answer.Accepted v
+accepted-decided t step v f a = sym (ap (λ (o : Outcome). o .answer) (accepted-head t step f (ap isAccepted a))) ∙ a
+
 -- every place but the step's own is as it was, whether it was accepted or refused
 pub others-stay : (t : Tables) (step : Step) → lookOf step .trip ≡ Trip.Nowhere → OthersStay t (stepOf t step .tables) (placesOf t (lookOf step))
 others-stay t step f =
@@ -140,29 +152,31 @@ pub done-at :
     → Sized t
     → stepOf t step .answer ≡ Answer.Accepted v
     → placesOf t (lookOf step) ≡ at
-    → ((seen : Seen)
-    → decideOf step (at .message) (remains t (at .slot)) seen
-    ≡ settleOf (record { answer = firstOf (checks seen) (result seen); left = left seen }) seen)
+    → let seen : Seen = seenOf t at in
+    decideOf step (at .message) (remains t (at .slot)) seen
+    ≡ settleOf (record { answer = firstOf (checks seen) (result seen); left = left seen }) seen
     → Done t (stepOf t step .tables) v at (checks (seenOf t at)) (result (seenOf t at)) (left (seenOf t at))
 done-at t step v at checks result left f z a p decides =
     let seen : Seen = seenOf t at in
     let d : Decision = record { answer = firstOf (checks seen) (result seen); left = left seen } in
-    let h : stepOf t step ≡ headAt t step at =
-    flat-head t step f (accepted-in-range t step (ap isAccepted a)) ∙ head-at-places t step ∙ ap (headAt t step) p in
+    let h : stepOf t step ≡ headAt t step at = accepted-head t step f (ap isAccepted a) ∙ ap (headAt t step) p in
     let e : d .answer ≡ Answer.Accepted v =
-    sym (ap (λ (x : Decision). x .answer) (decides seen)) ∙ sym (ap (λ (o : Outcome). o .answer) h) ∙ a in
+    sym (ap (λ (x : Decision). x .answer) decides) ∙ sym (ap (λ (o : Outcome). o .answer) h) ∙ a in
     let b : isAccepted (d .answer) ≡ true = ap isAccepted e in
     record {
       fine = accepted-fine (checks seen) (result seen) b;
       value = ap answerValue (sym e ∙ accepted-value (checks seen) (result seen) b);
       tables =
           ap (λ (o : Outcome). o .tables) h
-          ∙ ap (stored t at) (ap (λ (x : Decision). x .left) (decides seen) ∙ settle-accepted d seen b);
+          ∙ ap (stored t at) (ap (λ (x : Decision). x .left) decides ∙ settle-accepted d seen b);
       sized = z;
       placed = subst Placed p (placed-places t (lookOf step));
     }
 
 -- ---- what it left, table by table
+
+same-object : (j k : ℕ) {b : ℕ} → j / 4 ≡ b → k / 4 ≡ b → j % 4 ≡ k % 4 → j ≡ k
+same-object j k r q y = omega arith
 
 module _ {t t′ : Tables} {v : ℕ} {at : Places} {cs : List Check} {result : ℕ} {left : Seen} (d : Done t t′ v at cs result left) where
   pub only-site : OnlySite t t′ (at .site) (left .site)
@@ -194,6 +208,28 @@ module _ {t t′ : Tables} {v : ℕ} {at : Places} {cs : List Check} {result : �
             object-after-stored t at left (d .sized) (d .placed) k e ∙ f (k % 4) (omega arith)
             ∙ ap change (seen-object t k (at .bank) e);
         others = object-after-stored-other t at left;
+      })
+
+  -- one object of the bank changed
+  pub only-object :
+      (k : ℕ) (x : Object) → objectSite k ≡ at .bank → left .objects ≡ set (bankAt t (at .bank)) (k % 4) x → OnlyObject t t′ k x
+  only-object k x s e =
+      let q : k / 4 ≡ at .bank = s in
+      rw
+      (d .tables)
+      (record {
+        here =
+            object-after-stored t at left (d .sized) (d .placed) k s
+            ∙ (rw e (getD-set-same (bankAt t (at .bank)) (k % 4) x pastObject (omega arith)));
+        others = λ j n.
+            ⊎-elim
+            (λ b.
+            let r : j / 4 ≡ at .bank = eqb-true _ _ b in
+            object-after-stored t at left (d .sized) (d .placed) j r
+            ∙ (rw e (getD-set-other (bankAt t (at .bank)) (k % 4) (j % 4) x pastObject (λ y. n (same-object j k r q y))))
+            ∙ seen-object t j (at .bank) r)
+            (λ b. object-after-stored-other t at left j (eqb-false _ _ b))
+            (either (eqb (objectSite j) (at .bank)));
       })
 
   -- ---- a table stays whose record was left as it was seen

@@ -47,7 +47,7 @@ module _ (t : Tables) (home slot q r v : ℕ) (z : Sized t) (a : stepOf t (Step.
   unfolding decideOf beginOf
   begin-done at p =
       done-at t (Step.Begin home slot q r) v at (beginChecks home slot q r) (λ seen. handleOf slot (seen .passage .generation))
-      (λ seen. begun home q r (nextClock (seen .site)) seen) refl z a p (λ seen. refl)
+      (λ seen. begun home q r (nextClock (seen .site)) seen) refl z a p refl
 
   begin-places :
       home < 8 → slot < 16
@@ -102,7 +102,7 @@ unfolding decideOf abortOf
 abort-effects t h v z a =
     let p = home-places t MailAt.Nowhere h (accepted-in-range t (Step.Abort h) (ap isAccepted a)) in
     let d =
-    done-at t (Step.Abort h) v _ (abortChecks h) (λ seen. 0) (λ seen. aborted (nextClock (seen .site)) seen) refl z a p (λ seen. refl) in
+    done-at t (Step.Abort h) v _ (abortChecks h) (λ seen. 0) (λ seen. aborted (nextClock (seen .site)) seen) refl z a p refl in
     record {
       names = in-use h _ (d .fine .fields) (d .fine .found);
       running = not-false _ (d .fine .state);
@@ -135,7 +135,7 @@ pub retire-effects :
 unfolding decideOf retireOf remains
 retire-effects t h v z a =
     let p = home-places t MailAt.Nowhere h (accepted-in-range t (Step.Retire h) (ap isAccepted a)) in
-    let d = done-at t (Step.Retire h) v _ (retireChecks h (remains t (slotOf h))) (λ seen. 0) retired refl z a p (λ seen. refl) in
+    let d = done-at t (Step.Retire h) v _ (retireChecks h (remains t (slotOf h))) (λ seen. 0) retired refl z a p refl in
     neither (d .fine .state) λ o r.
     neither {a = someUpTo (λ s. visitAt t s (slotOf h) .there) 8} r λ s m.
     record {

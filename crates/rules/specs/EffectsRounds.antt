@@ -58,7 +58,7 @@ open-effects t step h k bad v look z a decides handle =
     let at = ap (placesOf t) look ∙ home-places t MailAt.Nowhere h (accepted-in-range t step (ap isAccepted a)) in
     let d =
     done-at t step v _ (λ seen. openChecks h bad (not (opens k (seen .passage .status))) seen) (λ seen. seen .passage .round .number + 1)
-    (λ seen. opened k (nextClock (seen .site)) seen) (ap (λ (l : Look). l .trip) look) z a at (decides _ _) in
+    (λ seen. opened k (nextClock (seen .site)) seen) (ap (λ (l : Look). l .trip) look) z a at (decides _ _ _) in
     let w : v ≡ passageAt t (slotOf h) .round .number + 1 = d .value in
     record {
       names = in-use h _ (handle (d .fine .fields)) (d .fine .found);
@@ -99,7 +99,7 @@ module _ (t : Tables) (h v : ℕ) (z : Sized t) where
 
 -- ---- 7. ask, 9. tell: a message from home goes to another site
 
-phase-one-is : (ph : Phase) → isPhaseOne ph ≡ true → ph ≡ Phase.One
+pub phase-one-is : (ph : Phase) → isPhaseOne ph ≡ true → ph ≡ Phase.One
 phase-one-is Phase.None e = absurd (false≢true e)
 phase-one-is Phase.One e = refl
 phase-one-is Phase.Two e = absurd (false≢true e)
@@ -137,7 +137,7 @@ module _ (t : Tables) (h site v : ℕ) (z : Sized t) where
       let at = home-places t MailAt.Empty h (accepted-in-range t (Step.Ask h site) (ap isAccepted a)) in
       let d =
       done-at t (Step.Ask h site) v _ (askChecks h site) (λ seen. mailPlace MailAt.Empty (lowestEmpty t))
-      (λ seen. sentOut (askBody (seen .passage .round)) h site (nextClock (seen .site)) seen) refl z a at (λ seen. refl) in
+      (λ seen. sentOut (askBody (seen .passage .round)) h site (nextClock (seen .site)) seen) refl z a at refl in
       neither {a = badHandle h} {b = badSite site} (d .fine .fields) λ b s.
       neither (d .fine .state) λ ph w.
       record {
@@ -161,7 +161,7 @@ module _ (t : Tables) (h site v : ℕ) (z : Sized t) where
       let at = home-places t MailAt.Empty h (accepted-in-range t (Step.Tell h site) (ap isAccepted a)) in
       let d =
       done-at t (Step.Tell h site) v _ (tellChecks h site) (λ seen. mailPlace MailAt.Empty (lowestEmpty t))
-      (λ seen. sentOut (tellBody (seen .passage .round)) h site (nextClock (seen .site)) seen) refl z a at (λ seen. refl) in
+      (λ seen. sentOut (tellBody (seen .passage .round)) h site (nextClock (seen .site)) seen) refl z a at refl in
       neither {a = badHandle h} {b = badSite site} (d .fine .fields) λ b s.
       let r : Round = passageAt t (slotOf h) .round in
       neither {a = not (isPhaseTwo (r .phase)) || not (hasAnswered r (site % 8))} (d .fine .state) λ e w.
@@ -223,7 +223,7 @@ close-effects t h v z a =
     let at = home-places t MailAt.Nowhere h (accepted-in-range t (Step.Close h) (ap isAccepted a)) in
     let d =
     done-at t (Step.Close h) v _ (closeChecks h) (λ seen. answerCount (seen .passage .round))
-    (λ seen. closed (roundTold (seen .passage .round)) (slotOf h) (nextClock (seen .site)) seen) refl z a at (λ seen. refl) in
+    (λ seen. closed (roundTold (seen .passage .round)) (slotOf h) (nextClock (seen .site)) seen) refl z a at refl in
     let p : Passage = passageAt t (slotOf h) in
     record {
       names = in-use h _ (d .fine .fields) (d .fine .found);

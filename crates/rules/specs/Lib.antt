@@ -29,7 +29,9 @@ pub mod StoredObjects
 pub mod EffectsLaws
 pub mod EffectsPlaces
 pub mod EffectsLife
+pub mod EffectsCalls
 pub mod EffectsRounds
+pub mod EffectsPhases
 pub mod Runs
 pub mod Views
 pub mod Sheet

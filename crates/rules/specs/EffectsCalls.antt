@@ -1,0 +1,181 @@
+-- What an accepted invoke and the delivery of its call needed and left. Assumes nothing.
+use Prim.Native.Nat.{ℕ, _%_, _≤_, _<_}
+use native.Mathlib.Omega.{arith}
+use mathlib.Core.Path.{_≡_, refl, ap, _∙_}
+use mathlib.Core.Bool.{true, false, not, _&&_}
+use mathlib.Core.List.{List}
+use lib.Dec.{ltb, eqb}
+use lib.ListN.{getD}
+use borrow.Author.Tests.{leb-false, ltb-false, eqb-true, eq-eqb}
+use Rattle.rules.specs.Types.{Visit, Call, Body, Message, Tables, Step, Answer, Check, MailAt, Places, Seen}
+use Rattle.rules.specs.Limits.{widthMost, countMost}
+use Rattle.rules.specs.LoopsLaws.{not-false}
+use Rattle.rules.specs.Tables.{siteAt, objectAt, passageAt, visitAt, messageAt, bankAt, objectSite, slotOf, pastObject, noMessage}
+use Rattle.rules.specs.Ranges.{inRange}
+use Rattle.rules.specs.Answers.{isAccepted, firstOf, settleOf}
+use Rattle.rules.specs.AnswersLaws.{accepted-fine}
+use Rattle.rules.specs.Parts.{nextClock, deliveryClock, countSent, countReceived, isHeldByOther, taken, operated, plainMessage}
+use Rattle.rules.specs.Checks.{badSite, badHandle, badMessage}
+use Rattle.rules.specs.Calls.{callSite, isSentOut, invokeChecks, callOf, invoked, invokeOf, mailClock, emptyOf, calledVisit, calledObject, callChecks, called, deliverCallOf, deliverPhaseOneOf, deliverPhaseTwoOf, deliverAnswerOf, deliverBodyOf}
+use Rattle.rules.specs.Machine.{lookOf, bodyBank, placesOf, seenOf, decideOf, stepOf}
+use Rattle.rules.specs.StoredLaws.{Sized}
+use Rattle.rules.specs.StoredObjects.{seen-object}
+use Rattle.rules.specs.RangesLaws.{neither}
+use Rattle.rules.specs.RangesFits.{CallFits, call-says, MessageFits}
+use Rattle.rules.specs.EffectsLaws.{OnlyVisit, OnlyMessage, OnlyObject, ClockMoves, accepted-in-range, accepted-decided, Done, done-at, only-visit, only-message, only-object, passages-stay, objects-stay, clock-moves}
+use Rattle.rules.specs.EffectsPlaces.{message-fits, given-places, mail-places, InUse, in-use, NewMessage, new-message}
+
+-- ---- 3. invoke: a call goes out from the visit at this site, for an object, to read it or to write this width
+
+pub record Invoked (t t′ : Tables) (h slot site write object width v : ℕ) : Type 0 where
+  pub names : InUse h (passageAt t slot)
+  pub kind : write ≤ 1
+  pub below : object < 32
+  pub fits : width ≤ widthMost
+  -- a read carries no width
+  pub plain : write ≡ 0 → width ≡ 0
+  pub there : visitAt t site slot .there ≡ true
+  pub early : nextClock (siteAt t site) < visitAt t site slot .quiesce
+  pub alive : visitAt t site slot .dead ≡ false
+  pub room : getD (visitAt t site slot .sent) (objectSite object) 0 < countMost
+  pub clock : ClockMoves t t′ site (nextClock (siteAt t site))
+  pub visit : OnlyVisit t t′ site slot (countSent (visitAt t site slot) (objectSite object))
+  -- the value is the message's slot
+  pub message :
+      NewMessage t t′ v
+      (plainMessage (Body.Call (callOf write object width (visitAt t site slot))) site (objectSite object) h (nextClock (siteAt t site)))
+  pub passages : t′ .passages ≡ t .passages
+  pub objects : t′ .objects ≡ t .objects
+
+module _ (t : Tables) (h site write object width v : ℕ) (z : Sized t)
+    (a : stepOf t (Step.Invoke h site write object width) .answer ≡ Answer.Accepted v) where
+  invoke-done :
+      (at : Places) → placesOf t (lookOf (Step.Invoke h site write object width)) ≡ at
+      → Done t (stepOf t (Step.Invoke h site write object width) .tables) v at (invokeChecks h site write object width (seenOf t at)) (at .message)
+      (invoked h site (callOf write object width (visitAt t (at .site) (at .slot))) (nextClock (siteAt t (at .site))) (seenOf t at))
+  unfolding decideOf invokeOf
+  invoke-done at p =
+      done-at t (Step.Invoke h site write object width) v at (invokeChecks h site write object width) (λ seen. at .message)
+      (λ seen. invoked h site (callOf write object width (seen .visit)) (nextClock (seen .site)) seen) refl z a p refl
+
+  pub invoke-effects : Invoked t (stepOf t (Step.Invoke h site write object width) .tables) h (slotOf h) site write object width v
+  invoke-effects =
+      neither {b = eqb write 0 && not (eqb width 0)} (invoke-done _ refl .fine .fields) λ e w.
+      neither {b = ltb widthMost width} e λ e x.
+      neither {b = ltb 31 object} e λ e o.
+      neither {b = ltb 1 write} e λ e k.
+      neither {a = badHandle h} {b = badSite site} e λ b s.
+      let below : object < 32 = omega (arith, ltb-false) in
+      let c : objectSite object % 8 ≡ objectSite object = omega arith in
+      let d = invoke-done _ (given-places t MailAt.Empty h site (omega (arith, ltb-false))) in
+      let u : Visit = visitAt t site (slotOf h) in
+      neither (d .fine .early) λ q n.
+      neither {b = isSentOut object u} (d .fine .room) λ f r.
+      record {
+        names = in-use h _ b (d .fine .found);
+        kind = ltb-false _ _ k;
+        below = below;
+        fits = ltb-false _ _ x;
+        plain = λ y. eqb-true _ _ (not-false _ (rw (eq-eqb write 0 y) at w));
+        there = not-false _ (d .fine .there);
+        early = leb-false _ _ q;
+        alive = n;
+        room = rw c at (leb-false countMost (getD (u .sent) (callSite object) 0) r);
+        clock = clock-moves d _ refl (d .fine .up) (d .fine .clock);
+        visit = rw c at (only-visit d);
+        message = rw c at (new-message d refl (d .value) f);
+        passages = passages-stay d refl;
+        objects = objects-stay d refl;
+      }
+
+-- ---- 11. deliver
+
+delivered-below : (b : Body) (m v : ℕ) (seen : Seen) → deliverBodyOf b m seen .answer ≡ Answer.Accepted v → badMessage m ≡ false
+unfolding deliverBodyOf emptyOf deliverCallOf deliverPhaseOneOf deliverPhaseTwoOf deliverAnswerOf
+delivered-below Body.Empty m v seen a = accepted-fine _ _ (ap isAccepted a) .fields
+delivered-below (Body.Call c) m v seen a = accepted-fine _ _ (ap isAccepted a) .fields
+delivered-below (Body.PhaseOne n asked) m v seen a = accepted-fine _ _ (ap isAccepted a) .fields
+delivered-below (Body.PhaseTwo n told) m v seen a = accepted-fine _ _ (ap isAccepted a) .fields
+delivered-below (Body.Answer n received q) m v seen a = accepted-fine _ _ (ap isAccepted a) .fields
+
+pub deliver-below : (t : Tables) (m v : ℕ) → stepOf t (Step.Deliver m) .answer ≡ Answer.Accepted v → m < 32
+unfolding decideOf
+deliver-below t m v a =
+    let e : badMessage m ≡ false = delivered-below _ m v _ (accepted-decided t (Step.Deliver m) v refl a) in
+    omega (arith, ltb-false)
+
+-- where a message x with this body is delivered
+abbrev pub deliverPlaces : Message → Body → ℕ → Places
+deliverPlaces x b m =
+    record {
+      site = x .destination;
+      slot = slotOf (x .handle);
+      bank = bodyBank b (x .destination);
+      message = m;
+    }
+
+-- an accepted delivery, by what its body decides
+pub deliver-done :
+    (t : Tables) (m v : ℕ) (b : Body) (checks : Seen → List Check) (result : Seen → ℕ) (left : Seen → Seen) → Sized t
+    → stepOf t (Step.Deliver m) .answer ≡ Answer.Accepted v
+    → messageAt t m .body ≡ b
+    → ((seen : Seen)
+    → deliverBodyOf b m seen ≡ settleOf (record { answer = firstOf (checks seen) (result seen); left = left seen }) seen)
+    → let seen : Seen = seenOf t (deliverPlaces (messageAt t m) b m) in
+    Done t (stepOf t (Step.Deliver m) .tables) v (deliverPlaces (messageAt t m) b m) (checks seen) (result seen) (left seen)
+unfolding decideOf
+deliver-done t m v b checks result left z a e decides =
+    let r : inRange t ≡ true = accepted-in-range t (Step.Deliver m) (ap isAccepted a) in
+    let p : placesOf t (lookOf (Step.Deliver m)) ≡ deliverPlaces (messageAt t m) b m =
+    mail-places t m r (deliver-below t m v a) ∙ ap (λ (x : Body). deliverPlaces (messageAt t m) x m) e in
+    let seen : Seen = seenOf t (deliverPlaces (messageAt t m) b m) in
+    done-at t (Step.Deliver m) v _ checks result left refl z a p (ap (λ (x : Body). deliverBodyOf x m seen) e ∙ decides seen)
+
+-- a delivered call: message x in slot m carries the call c
+
+pub record CallDelivered (t t′ : Tables) (m : ℕ) (x : Message) (c : Call) (v : ℕ) : Type 0 where
+  pub below : m < 32
+  pub object-below : c .object < 32
+  pub early : deliveryClock (siteAt t (x .destination)) x < calledVisit c (visitAt t (x .destination) (slotOf (x .handle))) .quiesce
+  pub alive : calledVisit c (visitAt t (x .destination) (slotOf (x .handle))) .dead ≡ false
+  pub unheld : isHeldByOther (slotOf (x .handle)) (objectAt t (c .object) .holder) ≡ false
+  pub room : calledVisit c (visitAt t (x .destination) (slotOf (x .handle))) .received < countMost
+  -- the value before the operation
+  pub value : v ≡ objectAt t (c .object) .value
+  pub clock : ClockMoves t t′ (x .destination) (deliveryClock (siteAt t (x .destination)) x)
+  pub visit :
+      OnlyVisit t t′ (x .destination) (slotOf (x .handle))
+      (countReceived (calledVisit c (visitAt t (x .destination) (slotOf (x .handle)))))
+  pub message : OnlyMessage t t′ m noMessage
+  pub object : OnlyObject t t′ (c .object) (operated c (taken (slotOf (x .handle)) (objectAt t (c .object))))
+  pub passages : t′ .passages ≡ t .passages
+
+pub call-delivered-effects :
+    (t : Tables) (m v : ℕ) (c : Call) → Sized t → messageAt t m .body ≡ Body.Call c
+    → stepOf t (Step.Deliver m) .answer ≡ Answer.Accepted v
+    → CallDelivered t (stepOf t (Step.Deliver m) .tables) m (messageAt t m) c v
+unfolding deliverBodyOf deliverCallOf
+call-delivered-effects t m v c z e a =
+    let below : m < 32 = deliver-below t m v a in
+    let fits : MessageFits (messageAt t m) = message-fits t m (accepted-in-range t (Step.Deliver m) (ap isAccepted a)) below in
+    let call : CallFits c = call-says c (rw e at (fits .body)) in
+    let d =
+    deliver-done t m v (Body.Call c) (callChecks m c) (λ seen. calledObject c seen .value) (λ seen. called c (mailClock seen) seen) z a e
+    (λ seen. refl) in
+    let s : objectSite (c .object) ≡ objectSite (c .object) % 8 = omega arith in
+    let o : getD (bankAt t (objectSite (c .object) % 8)) (c .object % 4) pastObject ≡ objectAt t (c .object) = seen-object t (c .object) _ s in
+    neither (d .fine .early) λ q n.
+    record {
+      below = below;
+      object-below = omega arith;
+      early = leb-false _ _ q;
+      alive = n;
+      unheld = rw o at (d .fine .unheld);
+      room = leb-false _ _ (d .fine .room);
+      value = rw o at (d .value);
+      clock = clock-moves d _ refl (d .fine .up) (d .fine .clock);
+      visit = only-visit d;
+      message = only-message d;
+      object = only-object d (c .object) _ s (rw o);
+      passages = passages-stay d refl;
+    }
