@@ -131,29 +131,28 @@ deliver-done t m v b checks result left z a e decides =
     let seen : Seen = seenOf t (deliverPlaces (messageAt t m) b m) in
     done-at t (Step.Deliver m) v _ checks result left refl z a p (ap (λ (x : Body). deliverBodyOf x m seen) e ∙ decides seen)
 
--- a delivered call: message x in slot m carries the call c
+-- a delivered call: the message x of slot m, for this site and passage slot, carries the call c
 
-pub record CallDelivered (t t′ : Tables) (m : ℕ) (x : Message) (c : Call) (v : ℕ) : Type 0 where
+pub record CallDelivered (t t′ : Tables) (m : ℕ) (x : Message) (site slot : ℕ) (c : Call) (v : ℕ) : Type 0 where
   pub below : m < 32
   pub object-below : c .object < 32
-  pub early : deliveryClock (siteAt t (x .destination)) x < calledVisit c (visitAt t (x .destination) (slotOf (x .handle))) .quiesce
-  pub alive : calledVisit c (visitAt t (x .destination) (slotOf (x .handle))) .dead ≡ false
-  pub unheld : isHeldByOther (slotOf (x .handle)) (objectAt t (c .object) .holder) ≡ false
-  pub room : calledVisit c (visitAt t (x .destination) (slotOf (x .handle))) .received < countMost
+  pub early : deliveryClock (siteAt t site) x < calledVisit c (visitAt t site slot) .quiesce
+  pub alive : calledVisit c (visitAt t site slot) .dead ≡ false
+  pub unheld : isHeldByOther slot (objectAt t (c .object) .holder) ≡ false
+  pub room : calledVisit c (visitAt t site slot) .received < countMost
   -- the value before the operation
   pub value : v ≡ objectAt t (c .object) .value
-  pub clock : ClockMoves t t′ (x .destination) (deliveryClock (siteAt t (x .destination)) x)
-  pub visit :
-      OnlyVisit t t′ (x .destination) (slotOf (x .handle))
-      (countReceived (calledVisit c (visitAt t (x .destination) (slotOf (x .handle)))))
+  pub clock : ClockMoves t t′ site (deliveryClock (siteAt t site) x)
+  pub visit : OnlyVisit t t′ site slot (countReceived (calledVisit c (visitAt t site slot)))
   pub message : OnlyMessage t t′ m noMessage
-  pub object : OnlyObject t t′ (c .object) (operated c (taken (slotOf (x .handle)) (objectAt t (c .object))))
+  pub object : OnlyObject t t′ (c .object) (operated c (taken slot (objectAt t (c .object))))
   pub passages : t′ .passages ≡ t .passages
 
 pub call-delivered-effects :
     (t : Tables) (m v : ℕ) (c : Call) → Sized t → messageAt t m .body ≡ Body.Call c
     → stepOf t (Step.Deliver m) .answer ≡ Answer.Accepted v
-    → CallDelivered t (stepOf t (Step.Deliver m) .tables) m (messageAt t m) c v
+    → let x : Message = messageAt t m in
+    CallDelivered t (stepOf t (Step.Deliver m) .tables) m x (x .destination) (slotOf (x .handle)) c v
 unfolding deliverBodyOf deliverCallOf
 call-delivered-effects t m v c z e a =
     let below : m < 32 = deliver-below t m v a in

@@ -1,5 +1,5 @@
 -- What the delivery of a round's messages needed and left: phase 1, phase 2, and an answer.
--- In each record x is the message that stood in slot m, and p the passage in the slot that its handle names. Assumes nothing.
+-- In each record x is the message that stood in slot m, for this site, and p the passage in the slot that its handle names. Assumes nothing.
 use Prim.Native.Nat.{ℕ, _<_}
 use mathlib.Core.Path.{_≡_, refl}
 use mathlib.Core.Logic.{_≢_}
@@ -21,63 +21,61 @@ use Rattle.rules.specs.EffectsRounds.{phase-one-is, toldObject, told-obj
 -- ---- what phase 1 and phase 2 share
 
 -- the visit was there, and alive where the message asks that
-pub record Reached (t t′ : Tables) (m : ℕ) (x : Message) (life : Bool) (v : ℕ) : Type 0 where
+pub record Reached (t t′ : Tables) (m : ℕ) (x : Message) (site slot : ℕ) (life : Bool) (v : ℕ) : Type 0 where
   pub below : m < 32
-  pub there : visitAt t (x .destination) (slotOf (x .handle)) .there ≡ true
-  pub alive : life ≡ true → visitAt t (x .destination) (slotOf (x .handle)) .dead ≡ false
+  pub there : visitAt t site slot .there ≡ true
+  pub alive : life ≡ true → visitAt t site slot .dead ≡ false
   pub value : v ≡ 0
-  pub clock : ClockMoves t t′ (x .destination) (deliveryClock (siteAt t (x .destination)) x)
+  pub clock : ClockMoves t t′ site (deliveryClock (siteAt t site) x)
 
 -- ---- a delivered phase 1 message
 
-pub record AskDelivered (t t′ : Tables) (m : ℕ) (x : Message) (p : Passage) (n : ℕ) (asked : Asked) (v : ℕ) : Type 0 where
-  pub reached : Reached t t′ m x (asksLife asked) v
-  pub newer : visitAt t (x .destination) (slotOf (x .handle)) .round < n
+pub record AskDelivered (t t′ : Tables) (m : ℕ) (x : Message) (site slot : ℕ) (p : Passage) (n : ℕ) (asked : Asked) (v : ℕ) : Type 0 where
+  pub reached : Reached t t′ m x site slot (asksLife asked) v
+  pub newer : visitAt t site slot .round < n
   pub visit :
-      OnlyVisit t t′ (x .destination) (slotOf (x .handle))
-      (askedVisit asked n (deliveryClock (siteAt t (x .destination)) x) (visitAt t (x .destination) (slotOf (x .handle))))
+      OnlyVisit t t′ site slot
+      (askedVisit asked n (deliveryClock (siteAt t site) x) (visitAt t site slot))
   pub objects : t′ .objects ≡ t .objects
   -- away from home, which is where every ask goes: the slot holds the answer
-  pub passages : x .destination ≢ p .home → t′ .passages ≡ t .passages
+  pub passages : site ≢ p .home → t′ .passages ≡ t .passages
   pub reply :
-      x .destination ≢ p .home
+      site ≢ p .home
       → OnlyMessage t t′ m
       (answerMessage
-      (askedVisit asked n (deliveryClock (siteAt t (x .destination)) x) (visitAt t (x .destination) (slotOf (x .handle))))
-      (x .destination)
+      (askedVisit asked n (deliveryClock (siteAt t site) x) (visitAt t site slot))
+      site
       (p .home)
       (x .handle)
-      (deliveryClock (siteAt t (x .destination)) x))
+      (deliveryClock (siteAt t site) x))
   -- at home
-  pub home-passage : x .destination ≡ p .home → OnlyPassage t t′ (slotOf (x .handle)) (withStatus p (askedStatus asked (p .status)))
-  pub home-message : x .destination ≡ p .home → OnlyMessage t t′ m noMessage
+  pub home-passage : site ≡ p .home → OnlyPassage t t′ slot (withStatus p (askedStatus asked (p .status)))
+  pub home-message : site ≡ p .home → OnlyMessage t t′ m noMessage
 
 -- ---- a delivered phase 2 message
 
-pub record TellDelivered (t t′ : Tables) (m : ℕ) (x : Message) (p : Passage) (n : ℕ) (told : Told) (v : ℕ) : Type 0 where
-  pub reached : Reached t t′ m x (tellsLife told) v
-  pub same : n ≡ visitAt t (x .destination) (slotOf (x .handle)) .round
-  pub visit :
-      OnlyVisit t t′ (x .destination) (slotOf (x .handle))
-      (toldVisit told (visitAt t (x .destination) (slotOf (x .handle))))
+pub record TellDelivered (t t′ : Tables) (m : ℕ) (x : Message) (site slot : ℕ) (p : Passage) (n : ℕ) (told : Told) (v : ℕ) : Type 0 where
+  pub reached : Reached t t′ m x site slot (tellsLife told) v
+  pub same : n ≡ visitAt t site slot .round
+  pub visit : OnlyVisit t t′ site slot (toldVisit told (visitAt t site slot))
   pub message : OnlyMessage t t′ m noMessage
-  pub objects : OnlyObjects t t′ (x .destination) (toldObject told (slotOf (x .handle)))
+  pub objects : OnlyObjects t t′ site (toldObject told slot)
   -- away from home, which is where every tell goes
-  pub passages : x .destination ≢ p .home → t′ .passages ≡ t .passages
+  pub passages : site ≢ p .home → t′ .passages ≡ t .passages
   -- at home
-  pub home-passage : x .destination ≡ p .home → OnlyPassage t t′ (slotOf (x .handle)) (withStatus p (toldStatus told (p .status)))
+  pub home-passage : site ≡ p .home → OnlyPassage t t′ slot (withStatus p (toldStatus told (p .status)))
 
 -- ---- a delivered answer
 
-pub record AnswerDelivered (t t′ : Tables) (m : ℕ) (x : Message) (p : Passage) (n received q v : ℕ) : Type 0 where
+pub record AnswerDelivered (t t′ : Tables) (m : ℕ) (x : Message) (site slot : ℕ) (p : Passage) (n received q v : ℕ) : Type 0 where
   pub below : m < 32
   pub used : isFree (p .status) ≡ false
   pub phase : p .round .phase ≡ Phase.One
   pub number : n ≡ p .round .number
   pub value : v ≡ 0
-  pub clock : ClockMoves t t′ (x .destination) (deliveryClock (siteAt t (x .destination)) x)
+  pub clock : ClockMoves t t′ site (deliveryClock (siteAt t site) x)
   pub passage :
-      OnlyPassage t t′ (slotOf (x .handle))
+      OnlyPassage t t′ slot
       (withRound p (withAnswer (p .round) (x .source) (record { sent = x .sent; received = received; quiesce = q })))
   pub message : OnlyMessage t t′ m noMessage
   pub visits : t′ .visits ≡ t .visits
@@ -91,7 +89,8 @@ module _ (t : Tables) (m v : ℕ) (z : Sized t) (a : stepOf t (Step.Deliver m) .
       → let seen : Seen = seenOf t (deliverPlaces (messageAt t m) b m) in
       Done t (stepOf t (Step.Deliver m) .tables) v (deliverPlaces (messageAt t m) b m) (roundChecks m life wrong (mailClock seen) seen) 0 left
       → left .site ≡ clockTo (seen .site) (mailClock seen)
-      → Reached t (stepOf t (Step.Deliver m) .tables) m (messageAt t m) life v
+      → let x : Message = messageAt t m in
+      Reached t (stepOf t (Step.Deliver m) .tables) m x (x .destination) (slotOf (x .handle)) life v
   reached-by b life wrong left d s =
       record {
         below = deliver-below t m v a;
@@ -103,7 +102,8 @@ module _ (t : Tables) (m v : ℕ) (z : Sized t) (a : stepOf t (Step.Deliver m) .
 
   pub ask-delivered-effects :
       (n : ℕ) (asked : Asked) → messageAt t m .body ≡ Body.PhaseOne n asked
-      → AskDelivered t (stepOf t (Step.Deliver m) .tables) m (messageAt t m) (passageAt t (slotOf (messageAt t m .handle))) n asked v
+      → let x : Message = messageAt t m in
+      AskDelivered t (stepOf t (Step.Deliver m) .tables) m x (x .destination) (slotOf (x .handle)) (passageAt t (slotOf (x .handle))) n asked v
   unfolding deliverBodyOf deliverPhaseOneOf
   ask-delivered-effects n asked e =
       let d =
@@ -124,7 +124,8 @@ module _ (t : Tables) (m v : ℕ) (z : Sized t) (a : stepOf t (Step.Deliver m) .
 
   pub tell-delivered-effects :
       (n : ℕ) (told : Told) → messageAt t m .body ≡ Body.PhaseTwo n told
-      → TellDelivered t (stepOf t (Step.Deliver m) .tables) m (messageAt t m) (passageAt t (slotOf (messageAt t m .handle))) n told v
+      → let x : Message = messageAt t m in
+      TellDelivered t (stepOf t (Step.Deliver m) .tables) m x (x .destination) (slotOf (x .handle)) (passageAt t (slotOf (x .handle))) n told v
   unfolding deliverBodyOf deliverPhaseTwoOf
   tell-delivered-effects n told e =
       let d =
@@ -144,7 +145,8 @@ module _ (t : Tables) (m v : ℕ) (z : Sized t) (a : stepOf t (Step.Deliver m) .
 
   pub answer-delivered-effects :
       (n received q : ℕ) → messageAt t m .body ≡ Body.Answer n received q
-      → AnswerDelivered t (stepOf t (Step.Deliver m) .tables) m (messageAt t m) (passageAt t (slotOf (messageAt t m .handle))) n received q v
+      → let x : Message = messageAt t m in
+      AnswerDelivered t (stepOf t (Step.Deliver m) .tables) m x (x .destination) (slotOf (x .handle)) (passageAt t (slotOf (x .handle))) n received q v
   unfolding deliverBodyOf deliverAnswerOf
   answer-delivered-effects n received q e =
       let d =
