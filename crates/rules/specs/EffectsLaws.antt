@@ -1,5 +1,6 @@
 -- What an accepted step without turns leaves: its places hold the records that it decided, and every other place is as it was.
--- Every step but sweep and crash is such a step. The files Effects.. say it of each step in its own words. Assumes nothing.
+-- Every step but sweep and crash is such a step. The files Effects.. say it of each step in its own words.
+-- Whoever knows what stood at a place rewrites such a record by it: rw e at (begin-effects ..). Assumes nothing.
 use Prim.Native.Nat.{ℕ, _/_, _%_, _≤_, _<_}
 use native.Mathlib.Omega.{arith}
 use mathlib.Core.Path.{_≡_, refl, sym, ap, _∙_, subst}
@@ -83,6 +84,10 @@ module _ (t : Tables) (at : Places) (left : Seen) (b : Placed at) where
       }
 
 -- ---- the bridge from an accepted step to what it stores
+
+pub accepted-answer : (a : Answer) → isAccepted a ≡ true → a ≡ Answer.Accepted (answerValue a)
+accepted-answer (Answer.Accepted v) e = refl
+accepted-answer (Answer.Refused r) e = absurd (false≢true e)
 
 -- a step is accepted only on tables that are in range: number 20 is tried first
 pub accepted-in-range : (t : Tables) (step : Step) → isAccepted (stepOf t step .answer) ≡ true → inRange t ≡ true

@@ -2,26 +2,26 @@
 -- In each record p is the passage that stood in the handle's slot. Assumes nothing.
 use Prim.Native.Nat.{ℕ, _+_, _%_, _<_}
 use native.Mathlib.Omega.{arith}
-use mathlib.Core.Path.{_≡_, refl, sym, ap, _∙_}
+use mathlib.Core.Path.{_≡_, refl, ap, _∙_}
 use mathlib.Core.Logic.{_≢_, ⊎-elim}
 use mathlib.Core.Bool.{Bool, true, false, cond, not, _||_, false≢true}
-use mathlib.Core.List.{List}
+use mathlib.Core.List.{List, [], _∷_}
 use lib.Dec.{eqb}
 use lib.ListN.{getD}
 use borrow.Author.Tests.{leb-false, ltb-false, eqb-true, eqb-false}
-use Rattle.rules.specs.Types.{Object, Kind, Phase, Round, Status, Passage, Visit, Told, Body, Tables, Step, Answer, MailAt, Look, Seen}
+use Rattle.rules.specs.Types.{Object, Kind, Phase, Round, Status, Passage, Visit, Told, Body, Tables, Step, Refusal, Answer, Check, MailAt, Look, Places, Seen}
 use Rattle.rules.specs.Limits.{countMost}
 use Rattle.rules.specs.LoopsLaws.{or-left, not-false, either, every-at}
 use Rattle.rules.specs.Tables.{pastObject, siteAt, passageAt, visitAt, bankAt, slotOf}
-use Rattle.rules.specs.Answers.{isAccepted}
+use Rattle.rules.specs.Answers.{isAccepted, refuse}
 use Rattle.rules.specs.Parts.{nextClock, isActive, isRunning, isAborted, isPhaseOne, isPhaseTwo, whereThere, freed, hasAnswered, sentTo, receivedAt, isClosed, answerCount, askedOf, askedVisit, toldVisit, toldObjects, plainMessage}
-use Rattle.rules.specs.Checks.{badSite, badHandle, badTimes}
+use Rattle.rules.specs.Checks.{badSite, badHandle, badTimes, noPassage, siteDown, clockFull, isFull}
 use Rattle.rules.specs.Rounds.{openChecks, openedPassage, opened, openOf, refreshOf, terminateOf, prepareOf, askChecks, sentOut, askBody, askOf, closeChecks, roundTold, closedPassage, objectsWhereThere, closed, closeOf, tellChecks, tellBody, tellOf}
-use Rattle.rules.specs.Machine.{looksHome, lookOf, lowestEmpty, mailPlace, placesOf, decideOf, stepOf}
+use Rattle.rules.specs.Machine.{looksHome, lookOf, lowestEmpty, mailPlace, placesOf, seenOf, decideOf, stepOf}
 use Rattle.rules.specs.StoredLaws.{Sized}
 use Rattle.rules.specs.StoredObjects.{each-at}
 use Rattle.rules.specs.RangesLaws.{neither}
-use Rattle.rules.specs.EffectsLaws.{OnlyPassage, OnlyVisit, OnlyObjects, ClockMoves, accepted-in-range, done-at, only-passage, only-visit, only-objects, passages-stay, visits-stay, messages-stay, objects-stay, clock-moves}
+use Rattle.rules.specs.EffectsLaws.{OnlyPassage, OnlyVisit, OnlyObjects, ClockMoves, accepted-in-range, Done, done-at, only-passage, only-visit, only-objects, passages-stay, visits-stay, messages-stay, objects-stay, clock-moves}
 use Rattle.rules.specs.EffectsPlaces.{home-places, InUse, in-use, NewMessage, new-message}
 
 -- ---- 4. refresh, 5. terminate, 6. prepare
@@ -129,6 +129,43 @@ pub record TellSent (t t′ : Tables) (h : ℕ) (p : Passage) (site v : ℕ) : T
   pub answered : hasAnswered (p .round) site ≡ true
   pub sent : SentOut t t′ h p site (tellBody (p .round)) v
 
+-- the checks that the two share: which state is wrong is the step's own
+abbrev sendChecks : ℕ → ℕ → Bool → Seen → List Check
+sendChecks h site wrong seen =
+    refuse Refusal.BadField (badHandle h || badSite site) ∷ noPassage h seen ∷ siteDown seen
+    ∷ refuse Refusal.WrongState wrong
+    ∷ clockFull (nextClock (seen .site))
+    ∷ refuse Refusal.Full (isFull seen)
+    ∷ []
+
+abbrev sendPlaces : Tables → ℕ → Places
+sendPlaces t h =
+    record {
+      site = passageAt t (slotOf h) .home;
+      slot = slotOf h;
+      bank = passageAt t (slotOf h) .home;
+      message = mailPlace MailAt.Empty (lowestEmpty t);
+    }
+
+sent-out :
+    {t t′ : Tables} {v : ℕ} (h site : ℕ) (body : Body) (wrong : Bool)
+    → let seen : Seen = seenOf t (sendPlaces t h) in
+    Done t t′ v (sendPlaces t h) (sendChecks h site wrong seen) (sendPlaces t h .message) (sentOut body h site (nextClock (seen .site)) seen)
+    → eqb site (passageAt t (slotOf h) .home) ≡ false
+    → SentOut t t′ h (passageAt t (slotOf h)) site body v
+sent-out h site body wrong d w =
+    neither {a = badHandle h} {b = badSite site} (d .fine .fields) λ b s.
+    record {
+      names = in-use h _ b (d .fine .found);
+      below = omega (arith, ltb-false);
+      away = eqb-false _ _ w;
+      clock = clock-moves d _ refl (d .fine .up) (d .fine .clock);
+      message = new-message d refl (d .value) (d .fine .room);
+      passages = passages-stay d refl;
+      visits = visits-stay d refl;
+      objects = objects-stay d refl;
+    }
+
 module _ (t : Tables) (h site v : ℕ) (z : Sized t) where
   pub ask-effects :
       stepOf t (Step.Ask h site) .answer ≡ Answer.Accepted v → AskSent t (stepOf t (Step.Ask h site) .tables) h (passageAt t (slotOf h)) site v
@@ -138,21 +175,8 @@ module _ (t : Tables) (h site v : ℕ) (z : Sized t) where
       let d =
       done-at t (Step.Ask h site) v _ (askChecks h site) (λ seen. mailPlace MailAt.Empty (lowestEmpty t))
       (λ seen. sentOut (askBody (seen .passage .round)) h site (nextClock (seen .site)) seen) refl z a at refl in
-      neither {a = badHandle h} {b = badSite site} (d .fine .fields) λ b s.
       neither (d .fine .state) λ ph w.
-      record {
-        phase = phase-one-is _ (not-false _ ph);
-        sent = record {
-          names = in-use h _ b (d .fine .found);
-          below = omega (arith, ltb-false);
-          away = eqb-false _ _ w;
-          clock = clock-moves d _ refl (d .fine .up) (d .fine .clock);
-          message = new-message d refl (d .value) (d .fine .room);
-          passages = passages-stay d refl;
-          visits = visits-stay d refl;
-          objects = objects-stay d refl;
-        };
-      }
+      record { phase = phase-one-is _ (not-false _ ph); sent = sent-out h site (askBody (passageAt t (slotOf h) .round)) _ d w }
 
   pub tell-effects :
       stepOf t (Step.Tell h site) .answer ≡ Answer.Accepted v → TellSent t (stepOf t (Step.Tell h site) .tables) h (passageAt t (slotOf h)) site v
@@ -162,26 +186,14 @@ module _ (t : Tables) (h site v : ℕ) (z : Sized t) where
       let d =
       done-at t (Step.Tell h site) v _ (tellChecks h site) (λ seen. mailPlace MailAt.Empty (lowestEmpty t))
       (λ seen. sentOut (tellBody (seen .passage .round)) h site (nextClock (seen .site)) seen) refl z a at refl in
-      neither {a = badHandle h} {b = badSite site} (d .fine .fields) λ b s.
       let r : Round = passageAt t (slotOf h) .round in
       neither {a = not (isPhaseTwo (r .phase)) || not (hasAnswered r (site % 8))} (d .fine .state) λ e w.
       neither {a = not (isPhaseTwo (r .phase))} e λ ph n.
-      let below : site < 8 = omega (arith, ltb-false) in
-      let i : site % 8 ≡ site = omega arith in
-      record {
-        phase = phase-two-is _ (not-false _ ph);
-        answered = ap (hasAnswered r) (sym i) ∙ not-false _ n;
-        sent = record {
-          names = in-use h _ b (d .fine .found);
-          below = below;
-          away = eqb-false _ _ w;
-          clock = clock-moves d _ refl (d .fine .up) (d .fine .clock);
-          message = new-message d refl (d .value) (d .fine .room);
-          passages = passages-stay d refl;
-          visits = visits-stay d refl;
-          objects = objects-stay d refl;
-        };
-      }
+      let sent : SentOut t (stepOf t (Step.Tell h site) .tables) h (passageAt t (slotOf h)) site (tellBody r) v =
+      sent-out h site (tellBody r) _ d w in
+      let below : site < 8 = sent .below in
+      let i : site ≡ site % 8 = omega arith in
+      record { phase = phase-two-is _ (not-false _ ph); answered = ap (hasAnswered r) i ∙ not-false _ n; sent = sent }
 
 -- ---- 8. close
 

@@ -26,6 +26,7 @@ pub mod RangesLaws
 pub mod RangesFits
 pub mod RangesKept
 pub mod StoredObjects
+pub mod PartsLaws
 pub mod EffectsLaws
 pub mod EffectsPlaces
 pub mod EffectsLife
