@@ -1,3 +1,3 @@
--- What one turn of a trip through a site's slots sees, leaves and counts, with its laws. Assumes nothing.
+-- What a trip through a site's slots counts, with the laws of its turns. Assumes nothing.
 pub mod Turns
 pub mod TurnsLaws

@@ -1,5 +1,5 @@
--- Laws of a trip through a site's slots: its places exist, a turn is what it sees, counts and leaves, and it counts from 0. Assumes nothing.
-use Prim.Native.Nat.{ℕ, _+_, _≤_, _<_}
+-- Laws of a trip through a site's slots: a turn may store the message that it saw, it counts at most one, and a trip counts from 0. Assumes nothing.
+use Prim.Native.Nat.{ℕ, _+_, _≤_}
 use native.Mathlib.Omega.{arith}
 use native.Mathlib.Nat.{le-refl}
 use mathlib.Core.Path.{_≡_, refl}
@@ -14,7 +14,7 @@ use Rattle.rules.specs.declared.answers.Outcome.{Outcome}
 use Rattle.rules.specs.declared.answers.Places.{Places}
 use Rattle.rules.specs.declared.answers.Trip.{Trip}
 use Rattle.rules.specs.Ranges.{inRange}
-use Rattle.rules.specs.RangesLaws.{placed-slots, seen-in-range}
+use Rattle.rules.specs.RangesLaws.{seen-in-range}
 use Rattle.rules.specs.RangesFits.{sane-seen}
 pub use Rattle.rules.specs.RangesKept.{turn-count-most}
 use Rattle.rules.specs.Sane.{Sane}
@@ -22,20 +22,15 @@ use Rattle.rules.specs.Loops.{oneIf}
 use Rattle.rules.specs.LoopsLaws.{either}
 use Rattle.rules.specs.Answers.{answerValue, firstOf}
 use Rattle.rules.specs.Stations.{sweepOf, sweepChecks}
-use Rattle.rules.specs.StoredLaws.{Placed, stored-seen}
-use Rattle.rules.specs.Machine.{lookOf, placesOf, seenOf, stored, decideOf, headOf, countOne, sweepTurn, crashTurn, turnOf}
-use Rattle.decisions.specs.Turns.{tripPlaces, turnSeen, turnAnswer, tripValue}
-
-pub placed-trip : (trip : Trip) (slot : ℕ) → slot < 16 → Placed (tripPlaces trip slot)
-placed-trip Trip.Nowhere slot h = placed-slots 0 slot h
-placed-trip (Trip.Sweep site) slot h = placed-slots site slot h
-placed-trip (Trip.Crash site) slot h = placed-slots site slot h
+use Rattle.rules.specs.StoredLaws.{Placed, turn-stored}
+use Rattle.rules.specs.Machine.{lookOf, placesOf, seenOf, stored, decideOf, headOf, countOne, tripPlaces, turnSeen, turnAnswer, turnOf}
+use Rattle.decisions.specs.Turns.{tripValue}
 
 -- what is seen of tables in range, at places that exist, is sane
 pub sane-at : (t : Tables) (at : Places) → inRange t ≡ true → Placed at → Sane (seenOf t at)
 sane-at t at r h = sane-seen (seenOf t at) (seen-in-range t at r h)
 
--- a turn, put together of what it sees
+-- a turn as code makes it: the message goes back to its place with the rest
 abbrev pub turnMade : Trip → ℕ → Outcome → Outcome
 turnMade trip slot o =
     record {
@@ -48,10 +43,8 @@ turnMade trip slot o =
     }
 
 pub turn-is-made : (trip : Trip) (slot : ℕ) (o : Outcome) → turnMade trip slot o ≡ turnOf trip slot o
-unfolding sweepTurn crashTurn
-turn-is-made Trip.Nowhere slot o = rw (stored-seen (o .tables) (tripPlaces Trip.Nowhere slot))
-turn-is-made (Trip.Sweep site) slot o = refl
-turn-is-made (Trip.Crash site) slot o = refl
+unfolding turnOf
+turn-is-made trip slot o = rw (← turn-stored trip slot o)
 
 -- a turn counts at most one
 one-if-most : (b : Bool) → oneIf b ≤ 1
@@ -63,7 +56,7 @@ count-most (Answer.Accepted v) b n h = let k : oneIf b ≤ 1 = one-if-most b in 
 count-most (Answer.Refused r) b n h = omega arith
 
 pub turn-counts : (trip : Trip) (slot : ℕ) (o : Outcome) → tripValue trip (o .answer) ≤ slot → tripValue trip (turnOf trip slot o .answer) ≤ slot + 1
-unfolding sweepTurn crashTurn
+unfolding turnOf
 turn-counts Trip.Nowhere slot o h = omega arith
 turn-counts (Trip.Sweep site) slot o h = count-most (o .answer) _ slot h
 turn-counts (Trip.Crash site) slot o h = omega arith

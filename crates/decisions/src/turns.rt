@@ -10,8 +10,8 @@ ghost use Prim.Native.Nat.{_+_, _≤_, _<_};
 ghost use mathlib.Core.Path.{_≡_};
 ghost use Rattle.rules.specs.Loops.{oneIf};
 ghost use Rattle.rules.specs.Answers.{answerValue};
-ghost use Rattle.rules.specs.Machine.{slotPlaces, countOne, turnCount};
-ghost use Rattle.decisions.specs.Turns.{turnAnswer, turnSeen, tripPlaces, tripValue};
+ghost use Rattle.rules.specs.Machine.{slotPlaces, tripPlaces, turnSeen, countOne, turnAnswer, turnCount};
+ghost use Rattle.decisions.specs.Turns.{tripValue};
 
 fn counted(v: u64, b: bool) -> u64
     requires { ⌜ v ≤ 1000 ⌝ }

@@ -9,7 +9,7 @@ use mathlib.Core.Bool.{Bool, true, false, not, _||_, false≢true}
 use mathlib.Core.List.{List}
 use lib.Dec.{ltb, eqb}
 use borrow.Author.Tests.{ltb-true, ltb-false, eqb-true}
-use Rattle.rules.specs.Types.{Passage, Message, Tables, Step, Check, Trip, MailAt, SlotAt, SiteAt, Places, Seen, Outcome}
+use Rattle.rules.specs.Types.{Passage, Message, Tables, Step, Check, Trip, MailAt, SlotAt, SiteAt, Places, Seen}
 use Rattle.rules.specs.Limits.{handleMost, messageMost}
 use Rattle.rules.specs.Loops.{firstUpTo}
 use Rattle.rules.specs.LoopsLaws.{or-left, or-right, not-false, either, below-or-last, first-le}
@@ -18,33 +18,13 @@ use Rattle.rules.specs.Ranges.{inRange}
 use Rattle.rules.specs.Answers.{isAccepted}
 use Rattle.rules.specs.Parts.{isFree, isEmpty}
 use Rattle.rules.specs.Checks.{badHandle}
-use Rattle.rules.specs.Machine.{looks, looksHome, lookOf, lowestEmpty, mailPlace, bodyBank, placesOf, seenOf, headOf, sweepTurn, crashTurn, turnOf, turnsUpTo, stepInRangeOf, stepOf}
-use Rattle.rules.specs.StoredLaws.{Sized, sized-after-stored}
+use Rattle.rules.specs.Machine.{looks, looksHome, lowestEmpty, mailPlace, bodyBank, placesOf, seenOf, stepOf}
 use Rattle.rules.specs.RangesLaws.{seen-in-range}
 use Rattle.rules.specs.RangesFits.{PassageFits, MessageFits, seen-says}
 use Rattle.rules.specs.RangesKept.{in-range-after-step}
 use Rattle.rules.specs.EffectsLaws.{OnlyMessage, accepted-in-range, Done, only-message}
 
--- ---- every step keeps the lengths of the tables, and an accepted one their ranges
-
-sized-after-turn : (trip : Trip) (slot : ℕ) (o : Outcome) → Sized (o .tables) → Sized (turnOf trip slot o .tables)
-unfolding sweepTurn crashTurn
-sized-after-turn Trip.Nowhere slot o z = z
-sized-after-turn (Trip.Sweep site) slot o z = sized-after-stored (o .tables) _ _ z
-sized-after-turn (Trip.Crash site) slot o z = sized-after-stored (o .tables) _ _ z
-
-sized-after-turns : (trip : Trip) (o : Outcome) (n : ℕ) → Sized (o .tables) → Sized (turnsUpTo trip o n .tables)
-unfolding turnsUpTo
-sized-after-turns trip o zero z = z
-sized-after-turns trip o (suc n) z = sized-after-turn trip n (turnsUpTo trip o n) (sized-after-turns trip o n z)
-
-pub sized-after-step : (t : Tables) (step : Step) → Sized t → Sized (stepOf t step .tables)
-unfolding stepOf stepInRangeOf headOf
-sized-after-step t step z =
-    ⊎-elim
-    (λ e. rw e (sized-after-turns (lookOf step .trip) (headOf t step) _ (sized-after-stored t _ _ z)))
-    (λ e. rw e z)
-    (either (inRange t))
+-- ---- an accepted step keeps the ranges of the tables
 
 pub in-range-after-accepted : (t : Tables) (step : Step) → isAccepted (stepOf t step .answer) ≡ true → inRange (stepOf t step .tables) ≡ true
 unfolding stepOf

@@ -138,19 +138,20 @@ decideOf (Step.Retire h) place rest seen = retireOf h rest seen
 
 -- ---- storing
 
-unfoldable pub stored : Tables → Places → Seen → Tables
-stored t at left =
+-- all but the message
+abbrev pub storedSlot : Tables → Places → Seen → Tables
+storedSlot t at left =
     putBank
-    (putMessage
     (putVisit
     (putPassage (putSite t (at .site) (left .site)) (at .slot) (left .passage))
     (at .site)
     (at .slot)
     (left .visit))
-    (at .message)
-    (left .message))
     (at .bank)
     (left .objects)
+
+unfoldable pub stored : Tables → Places → Seen → Tables
+stored t at left = putMessage (storedSlot t at left) (at .message) (left .message)
 
 -- a step's own records; for a sweep or a crash this is the clock
 unfoldable pub headOf : Tables → Step → Outcome
@@ -166,32 +167,41 @@ abbrev pub slotPlaces : ℕ → ℕ → Places
 slotPlaces site slot =
     record { site = site % 8; slot = slot; bank = site % 8; message = 0 }
 
+-- the site that a trip goes through; a step that makes none has no turn
+abbrev pub tripSite : Trip → ℕ
+tripSite Trip.Nowhere = 0
+tripSite (Trip.Sweep site) = site
+tripSite (Trip.Crash site) = site
+
+abbrev pub tripPlaces : Trip → ℕ → Places
+tripPlaces trip slot = slotPlaces (tripSite trip) slot
+
+-- what a turn leaves of what it saw
+abbrev pub turnSeen : Trip → ℕ → Seen → Seen
+turnSeen Trip.Nowhere slot seen = seen
+turnSeen (Trip.Sweep site) slot seen = sweptSlot site slot seen
+turnSeen (Trip.Crash site) slot seen = crashedSlot site slot seen
+
 -- "Value: visits removed"
 abbrev pub countOne : Answer → Bool → Answer
 countOne (Answer.Accepted v) b = Answer.Accepted (v + oneIf b)
 countOne (Answer.Refused r) b = Answer.Refused r
 
-unfoldable pub sweepTurn : ℕ → ℕ → Outcome → Outcome
-sweepTurn site slot o =
-    let at : Places = slotPlaces site slot in
+-- the answer after a turn
+abbrev pub turnAnswer : Trip → Answer → Seen → Answer
+turnAnswer Trip.Nowhere answer seen = answer
+turnAnswer (Trip.Sweep site) answer seen = countOne answer (isSwept seen)
+turnAnswer (Trip.Crash site) answer seen = answer
+
+-- one turn: look, change, store; no message is stored
+unfoldable pub turnOf : Trip → ℕ → Outcome → Outcome
+turnOf trip slot o =
+    let at : Places = tripPlaces trip slot in
     let seen : Seen = seenOf (o .tables) at in
     record {
-      answer = countOne (o .answer) (isSwept seen);
-      tables = stored (o .tables) at (sweptSlot site slot seen);
+      answer = turnAnswer trip (o .answer) seen;
+      tables = storedSlot (o .tables) at (turnSeen trip slot seen);
     }
-
-unfoldable pub crashTurn : ℕ → ℕ → Outcome → Outcome
-crashTurn site slot o =
-    let at : Places = slotPlaces site slot in
-    record {
-      answer = o .answer;
-      tables = stored (o .tables) at (crashedSlot site slot (seenOf (o .tables) at));
-    }
-
-abbrev pub turnOf : Trip → ℕ → Outcome → Outcome
-turnOf Trip.Nowhere slot o = o
-turnOf (Trip.Sweep site) slot o = sweepTurn site slot o
-turnOf (Trip.Crash site) slot o = crashTurn site slot o
 
 unfoldable pub turnsUpTo : Trip → Outcome → ℕ → Outcome
 turnsUpTo trip o zero = o

@@ -24,11 +24,11 @@ use Rattle.rules.specs.Passages.{beginOf, abortOf, retireOf}
 use Rattle.rules.specs.Rounds.{openedVisit, openOf, refreshOf, terminateOf, prepareOf, sentOut, askOf, closeOf, tellOf}
 use Rattle.rules.specs.Calls.{callSite, callOf, invokeOf, mailClock, mailSlot, emptyOf, calledVisit, calledObject, callDone, deliverCallOf, deliverPhaseOneOf, deliverPhaseTwoOf, deliverAnswerOf, deliverBodyOf, dropOf}
 use Rattle.rules.specs.FineLaws.{invoke-count, call-count, open-count}
-use Rattle.rules.specs.Machine.{lookOf, placesOf, seenOf, remains, decideOf, stored, headOf, sweepTurn, crashTurn, turnOf, turnsUpTo, turnCount, stepInRangeOf, stepOf}
-use Rattle.rules.specs.StoredLaws.{Placed}
+use Rattle.rules.specs.Machine.{lookOf, placesOf, seenOf, remains, decideOf, stored, headOf, turnSeen, turnOf, turnsUpTo, turnCount, stepInRangeOf, stepOf}
+use Rattle.rules.specs.StoredLaws.{Placed, turn-stored}
 use Rattle.rules.specs.Record.{stepOfRecord, readingOf, recordInRangeOf, stepRecordOf}
 use Rattle.rules.specs.Runs.{runOf, runRecordsOf}
-use Rattle.rules.specs.RangesLaws.{set-keeps-at, both, neither, SeenInRange, seen-in-range, stored-in-range, placed-places, placed-slots}
+use Rattle.rules.specs.RangesLaws.{set-keeps-at, both, neither, SeenInRange, seen-in-range, stored-in-range, placed-places, placed-trip}
 use Rattle.rules.specs.RangesFits.{Counts, RoundFits, PassageFits, VisitFits, CallFits, call-says, call-makes, MessageFits, ObjectFits, ObjectsFit, SeenFits, seen-says, seen-makes, times-fit, no-counts-fit, eight-figures-fit, no-round-fits, new-visit-fits, no-visit-fits, no-message-fits, answer-message-fits, let-go-fits, taken-fits, operated-fits, each-fits, told-objects-fit, quieted-fits, asked-visit-fits, told-visit-fits, asked-in-range, round-told-in-range, phase-two-fits, with-answer-fits, aborted-fits}
 
 -- ---- the steps
@@ -228,11 +228,10 @@ pub decided-in-range :
 decided-in-range step place rest seen r =
     seen-makes _ (fits-after-decided seen (seen-says seen r) step place rest)
 
-pub swept-in-range : (site slot : ℕ) (seen : Seen) → SeenInRange seen → SeenInRange (sweptSlot site slot seen)
-swept-in-range site slot seen r = seen-makes _ (fits-after-swept seen (seen-says seen r) site slot)
-
-pub crashed-in-range : (site slot : ℕ) (seen : Seen) → SeenInRange seen → SeenInRange (crashedSlot site slot seen)
-crashed-in-range site slot seen r = seen-makes _ (fits-after-crashed seen (seen-says seen r) site slot)
+pub turned-in-range : (trip : Trip) (slot : ℕ) (seen : Seen) → SeenInRange seen → SeenInRange (turnSeen trip slot seen)
+turned-in-range Trip.Nowhere slot seen r = r
+turned-in-range (Trip.Sweep site) slot seen r = seen-makes _ (fits-after-swept seen (seen-says seen r) site slot)
+turned-in-range (Trip.Crash site) slot seen r = seen-makes _ (fits-after-crashed seen (seen-says seen r) site slot)
 
 -- ---- the tables stay in range: a step's head, then the turns of a sweep or a crash
 
@@ -259,12 +258,10 @@ in-range-after-head t step e =
 in-range-after-turn :
     (trip : Trip) (slot : ℕ) (o : Outcome) → slot < 16 → inRange (o .tables) ≡ true
     → inRange (turnOf trip slot o .tables) ≡ true
-unfolding sweepTurn crashTurn
-in-range-after-turn Trip.Nowhere slot o h e = e
-in-range-after-turn (Trip.Sweep site) slot o h e =
-    in-range-after-change _ _ (sweptSlot site slot) (swept-in-range site slot) (placed-slots site slot h) e
-in-range-after-turn (Trip.Crash site) slot o h e =
-    in-range-after-change _ _ (crashedSlot site slot) (crashed-in-range site slot) (placed-slots site slot h) e
+in-range-after-turn trip slot o h e =
+    rw
+    (turn-stored trip slot o)
+    (in-range-after-change _ _ (turnSeen trip slot) (turned-in-range trip slot) (placed-trip trip slot h) e)
 
 in-range-after-turns :
     (trip : Trip) (o : Outcome) (n : ℕ) → n ≤ 16 → inRange (o .tables) ≡ true

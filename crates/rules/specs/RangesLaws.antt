@@ -3,14 +3,14 @@
 use Prim.Native.Nat.{ℕ, zero, suc, _+_, _*_, _<_}
 use native.Mathlib.Omega.{arith}
 use mathlib.Core.Path.{_≡_, refl}
-use mathlib.Core.Bool.{Bool, true, false, _&&_, cond, _||_}
+use mathlib.Core.Bool.{Bool, true, false, _&&_, _||_}
 use mathlib.Core.List.{List, [], _∷_}
 use lib.ListN.{getD, set}
-use Rattle.rules.specs.Types.{Site, Object, Passage, Visit, Body, Message, Tables, MailAt, SlotAt, SiteAt, Look, Places, Seen}
+use Rattle.rules.specs.Types.{Site, Object, Passage, Visit, Body, Message, Tables, MailAt, SlotAt, SiteAt, Trip, Look, Places, Seen}
 use Rattle.rules.specs.LoopsLaws.{and-left, and-right, or-left, or-right, every-at, every-all}
 use Rattle.rules.specs.Tables.{pastObject, pastVisit, siteAt, objectAt, passageAt, visitPlace, messageAt, putBank}
 use Rattle.rules.specs.Ranges.{siteInRange, objectInRange, passageInRange, visitInRange, messageInRange, inRange}
-use Rattle.rules.specs.Machine.{lowestEmpty, mailPlace, slotPlace, sitePlace, bodyBank, bankPlace, placesFor, placesOf, seenOf, stored, slotPlaces}
+use Rattle.rules.specs.Machine.{lowestEmpty, mailPlace, slotPlace, sitePlace, bodyBank, bankPlace, placesFor, placesOf, seenOf, stored, tripPlaces}
 use Rattle.rules.specs.StoredLaws.{Placed}
 
 -- ---- lists
@@ -184,6 +184,6 @@ pub placed-places : (t : Tables) (look : Look) → Placed (placesOf t look)
 unfolding placesOf
 placed-places t look = placed-for look _ _ _ (mail-place-below (look .mail) (lowestEmpty t))
 
-pub placed-slots : (site slot : ℕ) → slot < 16 → Placed (slotPlaces site slot)
-placed-slots site slot h =
+pub placed-trip : (trip : Trip) (slot : ℕ) → slot < 16 → Placed (tripPlaces trip slot)
+placed-trip trip slot h =
     record { site = omega arith; slot = h; bank = omega arith; message = omega arith }

@@ -1,7 +1,7 @@
 -- Demand 1 of the definitions: a refused step or record leaves every table as it stood. Assumes nothing.
 use Prim.Native.Nat.{ℕ, zero, suc}
 use mathlib.Core.Path.{_≡_, refl, sym, ap, _∙_}
-use mathlib.Core.Logic.{⊎-elim, _⊎_}
+use mathlib.Core.Logic.{⊎-elim}
 use mathlib.Core.Bool.{Bool, false, true≢false}
 use mathlib.Core.List.{List}
 use Rattle.rules.specs.Types.{Tables, Body, Step, Reading, Answer, Trip, Seen, Outcome}
@@ -13,7 +13,7 @@ use Rattle.rules.specs.Stations.{tickDone, tickOf, sweepDone, sweepOf, c
 use Rattle.rules.specs.Passages.{beginDone, beginOf, abortDone, abortOf, retireDone, retireOf}
 use Rattle.rules.specs.Rounds.{openOf, refreshOf, terminateOf, prepareOf, askDone, askOf, closeDone, closeOf, tellDone, tellOf}
 use Rattle.rules.specs.Calls.{invokeDone, invokeOf, emptyDone, emptyOf, callDone, deliverCallOf, phaseOneDone, deliverPhaseOneOf, phaseTwoDone, deliverPhaseTwoOf, answerDone, deliverAnswerOf, deliverBodyOf, dropDone, dropOf}
-use Rattle.rules.specs.Machine.{lookOf, placesOf, seenOf, remains, decideOf, stored, headOf, countOne, sweepTurn, crashTurn, turnOf, turnsUpTo, turnCount, stepInRangeOf, stepOf}
+use Rattle.rules.specs.Machine.{lookOf, placesOf, seenOf, remains, decideOf, stored, headOf, countOne, turnOf, turnsUpTo, turnCount, stepInRangeOf, stepOf}
 use Rattle.rules.specs.Record.{stepOfRecord, readingOf, recordInRangeOf, stepRecordOf}
 use Rattle.rules.specs.StoredLaws.{stored-seen}
 
@@ -72,7 +72,7 @@ count-keeps (Answer.Accepted v) b = refl
 count-keeps (Answer.Refused r) b = refl
 
 turn-keeps : (trip : Trip) (slot : ℕ) (o : Outcome) → isAccepted (turnOf trip slot o .answer) ≡ isAccepted (o .answer)
-unfolding sweepTurn crashTurn
+unfolding turnOf
 turn-keeps Trip.Nowhere slot o = refl
 turn-keeps (Trip.Sweep site) slot o = count-keeps (o .answer) _
 turn-keeps (Trip.Crash site) slot o = refl

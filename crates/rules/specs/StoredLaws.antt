@@ -1,13 +1,16 @@
 -- Laws of storing: what each place holds afterwards, what stays, and that storing what was seen changes nothing. Assumes nothing.
-use Prim.Native.Nat.{ℕ, _<_}
+use Prim.Native.Nat.{ℕ, _<_, zero, suc}
 use native.Mathlib.Omega.{arith}
-use mathlib.Core.Path.{_≡_}
-use mathlib.Core.Logic.{_≢_}
+use mathlib.Core.Path.{_≡_, refl, sym}
+use mathlib.Core.Logic.{_≢_, ⊎-elim}
 use lib.ListN.{length, length-set}
 use lib.Seq.{getD-set-same, getD-set-other, set-getD}
-use Rattle.rules.specs.Types.{Tables, Places, Seen}
+use Rattle.rules.specs.Types.{Tables, Trip, Places, Seen, Outcome, Step}
+use Rattle.rules.specs.LoopsLaws.{either}
 use Rattle.rules.specs.Tables.{siteAt, passageAt, visitPlace, visitAt, messageAt, pastSite, pastPassage, pastVisit, pastMessage}
-use Rattle.rules.specs.Machine.{seenOf, stored}
+use Rattle.rules.specs.Stations.{isSwept, sweptSlot, crashedSlot}
+use Rattle.rules.specs.Machine.{seenOf, storedSlot, stored, tripPlaces, turnSeen, turnOf, lookOf, headOf, turnsUpTo, stepInRangeOf, stepOf}
+use Rattle.rules.specs.Ranges.{inRange}
 
 -- the lengths of the five tables: 8, 32, 16, 128, 32
 pub record Sized (t : Tables) : Type 0 where
@@ -29,6 +32,25 @@ pub stored-seen : (t : Tables) (at : Places) → stored t at (seenOf t at) ≡ t
 unfolding stored
 stored-seen t at = simp set-getD
 
+-- a message that stays as it was need not be stored
+stored-slot : (t : Tables) (at : Places) (left : Seen) → left .message ≡ messageAt t (at .message) → stored t at left ≡ storedSlot t at left
+unfolding stored
+stored-slot t at left e = rw e (simp set-getD)
+
+-- a turn leaves the message that it saw
+turned-message : (trip : Trip) (slot : ℕ) (seen : Seen) → turnSeen trip slot seen .message ≡ seen .message
+unfolding sweptSlot crashedSlot
+turned-message Trip.Nowhere slot seen = refl
+turned-message (Trip.Sweep site) slot seen = ⊎-elim (λ e. rw e) (λ e. rw e) (either (isSwept seen))
+turned-message (Trip.Crash site) slot seen = refl
+
+-- so what a turn leaves is a store as any other
+pub turn-stored :
+    (trip : Trip) (slot : ℕ) (o : Outcome)
+    → turnOf trip slot o .tables ≡ stored (o .tables) (tripPlaces trip slot) (turnSeen trip slot (seenOf (o .tables) (tripPlaces trip slot)))
+unfolding turnOf
+turn-stored trip slot o = sym (stored-slot (o .tables) (tripPlaces trip slot) _ (turned-message trip slot _))
+
 -- storing keeps the lengths
 pub sized-after-stored : (t : Tables) (at : Places) (left : Seen) → Sized t → Sized (stored t at left)
 unfolding stored
@@ -40,6 +62,23 @@ sized-after-stored t at left z =
       visits = rw length-set (z .visits);
       messages = rw length-set (z .messages);
     }
+
+-- so does every turn, and every step
+pub sized-after-turn : (trip : Trip) (slot : ℕ) (o : Outcome) → Sized (o .tables) → Sized (turnOf trip slot o .tables)
+sized-after-turn trip slot o z = rw (turn-stored trip slot o) (sized-after-stored (o .tables) _ _ z)
+
+sized-after-turns : (trip : Trip) (o : Outcome) (n : ℕ) → Sized (o .tables) → Sized (turnsUpTo trip o n .tables)
+unfolding turnsUpTo
+sized-after-turns trip o zero z = z
+sized-after-turns trip o (suc n) z = sized-after-turn trip n (turnsUpTo trip o n) (sized-after-turns trip o n z)
+
+pub sized-after-step : (t : Tables) (step : Step) → Sized t → Sized (stepOf t step .tables)
+unfolding stepOf stepInRangeOf headOf
+sized-after-step t step z =
+    ⊎-elim
+    (λ e. rw e (sized-after-turns (lookOf step .trip) (headOf t step) _ (sized-after-stored t _ _ z)))
+    (λ e. rw e z)
+    (either (inRange t))
 
 -- two places of the visit table are one only for the same site and slot
 pub visit-place-same : (s p s′ p′ : ℕ) → p < 16 → p′ < 16 → visitPlace s p ≡ visitPlace s′ p′ → (s ≡ s′) × (p ≡ p′)

@@ -14,7 +14,7 @@ use Rattle.rules.specs.Stations.{tickOf, sweepOf, crashOf, recoverOf}
 use Rattle.rules.specs.Passages.{beginOf, abortOf, retireOf}
 use Rattle.rules.specs.Rounds.{openOf, refreshOf, terminateOf, prepareOf, askOf, closeOf, tellOf}
 use Rattle.rules.specs.Calls.{invokeOf, emptyOf, deliverCallOf, deliverPhaseOneOf, deliverPhaseTwoOf, deliverAnswerOf, deliverBodyOf, dropOf}
-use Rattle.rules.specs.Machine.{lookOf, decideOf, headOf, countOne, sweepTurn, crashTurn, turnOf, turnsUpTo, turnCount, stepInRangeOf, stepOf}
+use Rattle.rules.specs.Machine.{lookOf, decideOf, headOf, countOne, turnOf, turnsUpTo, turnCount, stepInRangeOf, stepOf}
 use Rattle.rules.specs.Record.{stepOfRecord, readingOf, recordInRangeOf, stepRecordOf}
 
 abbrev pub isTwenty : Answer → Bool
@@ -66,7 +66,7 @@ number-after-count (Answer.Accepted v) b = refl
 number-after-count (Answer.Refused r) b = refl
 
 number-after-turn : (trip : Trip) (slot : ℕ) (o : Outcome) → answerNumber (turnOf trip slot o .answer) ≡ answerNumber (o .answer)
-unfolding sweepTurn crashTurn
+unfolding turnOf
 number-after-turn Trip.Nowhere slot o = refl
 number-after-turn (Trip.Sweep site) slot o = number-after-count (o .answer) _
 number-after-turn (Trip.Crash site) slot o = refl

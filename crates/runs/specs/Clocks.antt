@@ -1,30 +1,28 @@
 -- No step puts a clock back, and an accepted step that acts at a site adds at least 1 to that site's clock. Assumes nothing.
-use Prim.Native.Nat.{ℕ, zero, suc, _+_, _≤_, _<_}
+use Prim.Native.Nat.{ℕ, _+_, _≤_, _<_}
 use native.Mathlib.Omega.{arith}
-use mathlib.Core.Path.{_≡_, sym, _∙_}
+use mathlib.Core.Path.{_≡_, refl, sym, _∙_}
 use mathlib.Core.Logic.{⊎-elim}
-use mathlib.Core.Bool.{Bool, true, false, _||_, true≢false, false≢true}
-use mathlib.Core.List.{List}
+use mathlib.Core.Bool.{Bool, true, false, _||_, true≢false}
+use mathlib.Core.List.{List, [], _∷_}
 use lib.Dec.{eqb, ltb}
 use borrow.Author.Tests.{eqb-false}
 use Rattle.rules.specs.declared.answers.Trip.{Trip}
 use Rattle.rules.specs.Limits.{tickMost}
 use Rattle.rules.specs.LoopsLaws.{either, or-left, or-right}
 use Rattle.rules.specs.Tables.{siteAt}
-use Rattle.rules.specs.Ranges.{inRange}
 use Rattle.rules.specs.Answers.{isAccepted}
 use Rattle.rules.specs.Checks.{badSite}
 use Rattle.rules.specs.Stations.{tickOf, isSwept, sweptSlot, crashedSlot}
-use Rattle.rules.specs.Machine.{lookOf, placesOf, seenOf, decideOf, stored, headOf, slotPlaces, sweepTurn, crashTurn, turnOf, turnsUpTo, turnCount, stepInRangeOf, stepOf}
-use Rattle.rules.specs.StoredLaws.{Sized, Placed, site-after-stored, site-after-stored-other}
-use Rattle.rules.specs.RangesLaws.{placed-places, placed-slots}
-use Rattle.rules.specs.RangesKept.{turn-count-most}
-use Rattle.rules.specs.RefusedLaws.{decided-refused, turns-keep}
+use Rattle.rules.specs.Machine.{lookOf, placesOf, seenOf, decideOf, stored, headOf, turnOf, stepOf, tripPlaces, turnSeen}
+use Rattle.rules.specs.StoredLaws.{Sized, Placed, site-after-stored, site-after-stored-other, turn-stored}
+use Rattle.rules.specs.RangesLaws.{placed-places, placed-trip}
+use Rattle.rules.specs.RefusedLaws.{decided-refused}
 use Rattle.rules.specs.Runs.{runOf, actsAtSite}
 use Rattle.rules.specs.Views.{settled-accepted, Clock, deedOf}
 use Rattle.runs.specs.Types.{Tables, Step, Places, Seen, Outcome}
 use Rattle.runs.specs.Put.{same-or-other}
-use Rattle.runs.specs.Sizes.{step-holds, run-holds, sized-head, sized-turn}
+use Rattle.runs.specs.Sizes.{sized-step, sized-accepted-has, sized-step-has}
 
 -- ---- what a decision leaves
 
@@ -108,60 +106,61 @@ head-not-back t step z =
     (decided-not-back step _ _ (seenOf t (placesOf t (lookOf step))))
 
 -- each slot of a sweep or a crash stores the site back
-pub swept-site : (site slot : ℕ) (seen : Seen) → sweptSlot site slot seen .site ≡ seen .site
-unfolding sweptSlot
-swept-site site slot seen = ⊎-elim (λ e. rw e) (λ e. rw e) (either (isSwept seen))
+pub turned-site : (trip : Trip) (slot : ℕ) (seen : Seen) → turnSeen trip slot seen .site ≡ seen .site
+unfolding sweptSlot crashedSlot
+turned-site Trip.Nowhere slot seen = refl
+turned-site (Trip.Sweep site) slot seen = ⊎-elim (λ e. rw e) (λ e. rw e) (either (isSwept seen))
+turned-site (Trip.Crash site) slot seen = refl
 
 turn-not-back :
     (trip : Trip) (slot : ℕ) (o : Outcome) → slot < 16 → Sized (o .tables) → (s : ℕ)
     → siteAt (o .tables) s .clock ≤ siteAt (turnOf trip slot o .tables) s .clock
-unfolding sweepTurn crashTurn crashedSlot
-turn-not-back Trip.Nowhere slot o l z s = omega arith
-turn-not-back (Trip.Sweep site) slot o l z s =
-    stored-not-back
+turn-not-back trip slot o l z s =
+    rw
+    (turn-stored trip slot o)
+    (stored-not-back
     (o .tables)
-    (slotPlaces site slot)
+    (tripPlaces trip slot)
     _
     z
-    (placed-slots site slot l)
-    (rw (swept-site site slot (seenOf (o .tables) (slotPlaces site slot))) (omega arith))
-    s
-turn-not-back (Trip.Crash site) slot o l z s =
-    stored-not-back (o .tables) (slotPlaces site slot) _ z (placed-slots site slot l) (omega arith) s
+    (placed-trip trip slot l)
+    (rw (turned-site trip slot (seenOf (o .tables) (tripPlaces trip slot))) (omega arith))
+    s)
 
 -- ---- steps and runs
 
--- the lengths, and no clock behind that of t
-abbrev Ahead : Tables → Tables → Type 0
-Ahead t u = Sized u × ((s : ℕ) → siteAt t s .clock ≤ siteAt u s .clock)
-
-ahead-head : (t u : Tables) (step : Step) → Ahead t u → Ahead t (headOf u step .tables)
-ahead-head t u step (z, k) = (
-  sized-head u step z,
-  λ s. let i : siteAt t s .clock ≤ siteAt u s .clock = k s in
-      let j : siteAt u s .clock ≤ siteAt (headOf u step .tables) s .clock = head-not-back u step z s in
-      omega arith,
-)
-
-ahead-turn :
-    (t : Tables) (trip : Trip) (slot : ℕ) (o : Outcome) → slot < 16 → Ahead t (o .tables) → Ahead t (turnOf trip slot o .tables)
-ahead-turn t trip slot o l (z, k) = (
-  sized-turn trip slot o z,
-  λ s. let i : siteAt t s .clock ≤ siteAt (o .tables) s .clock = k s in
-      let j : siteAt (o .tables) s .clock ≤ siteAt (turnOf trip slot o .tables) s .clock = turn-not-back trip slot o l z s in
-      omega arith,
-)
+-- a clock that has come to m is not put back below it
+turn-ahead :
+    (trip : Trip) (m s n : ℕ) (o : Outcome) → n < 16 → Sized (o .tables) → m ≤ siteAt (o .tables) s .clock
+    → m ≤ siteAt (turnOf trip n o .tables) s .clock
+turn-ahead trip m s n o l z k =
+    let j : siteAt (o .tables) s .clock ≤ siteAt (turnOf trip n o .tables) s .clock = turn-not-back trip n o l z s in
+    omega arith
 
 -- whatever the step, accepted or not
 pub clock-not-back :
     (t : Tables) (step : Step) → Sized t → (s : ℕ) → siteAt t s .clock ≤ siteAt (stepOf t step .tables) s .clock
-clock-not-back t step z =
-    step-holds (Ahead t) (λ u x k e. ahead-head t u x k) (ahead-turn t) t step (z, λ s. omega arith) .1
+clock-not-back t step z s =
+    sized-step-has
+    t
+    step
+    z
+    (λ n u. siteAt t s .clock ≤ siteAt u s .clock)
+    (turn-ahead (lookOf step .trip) (siteAt t s .clock) s)
+    (λ e. head-not-back t step z s)
+    (λ u. siteAt t s .clock ≤ siteAt u s .clock)
+    (omega arith)
+    (λ u k. k)
 
 pub clock-run :
     (t : Tables) (ss : List Step) → Sized t → (s : ℕ) → siteAt t s .clock ≤ siteAt (runOf t ss) s .clock
-clock-run t ss z =
-    run-holds (Ahead t) (λ u x k e. ahead-head t u x k) (ahead-turn t) t ss (z, λ s. omega arith) .1
+unfolding runOf
+clock-run t [] z s = omega arith
+clock-run t (x ∷ xs) z s =
+    let i : siteAt t s .clock ≤ siteAt (stepOf t x .tables) s .clock = clock-not-back t x z s in
+    let j : siteAt (stepOf t x .tables) s .clock ≤ siteAt (runOf (stepOf t x .tables) xs) s .clock =
+    clock-run (stepOf t x .tables) xs (sized-step t x z) s in
+    omega arith
 
 -- ---- an accepted step that acts at a site adds at least 1 there
 
@@ -174,32 +173,16 @@ head-adds t step z e a =
     (site-after-stored t (placesOf t (lookOf step)) _ z (placed-places t (lookOf step)))
     (decided-adds step _ _ (seenOf t (placesOf t (lookOf step))) a e)
 
-turns-ahead :
-    (t : Tables) (trip : Trip) (o : Outcome) (n : ℕ) → n ≤ 16 → Ahead t (o .tables) → Ahead t (turnsUpTo trip o n .tables)
-unfolding turnsUpTo
-turns-ahead t trip o zero l k = k
-turns-ahead t trip o (suc n) l k = ahead-turn t trip n (turnsUpTo trip o n) l (turns-ahead t trip o n (omega arith) k)
-
-in-range-adds :
-    (t : Tables) (step : Step) → Sized t → isAccepted (stepInRangeOf t step .answer) ≡ true → actsAtSite step ≡ true
-    → siteAt t (placesOf t (lookOf step) .site) .clock + 1 ≤ siteAt (stepInRangeOf t step .tables) (placesOf t (lookOf step) .site) .clock
-unfolding stepInRangeOf
-in-range-adds t step z e a =
-    let trip : Trip = lookOf step .trip in
-    let n : ℕ = turnCount trip (headOf t step .answer) in
-    let s : ℕ = placesOf t (lookOf step) .site in
-    let i : siteAt t s .clock + 1 ≤ siteAt (headOf t step .tables) s .clock =
-    head-adds t step z (sym (turns-keep trip (headOf t step) n) ∙ e) a in
-    let j : siteAt (headOf t step .tables) s .clock ≤ siteAt (turnsUpTo trip (headOf t step) n .tables) s .clock =
-    turns-ahead (headOf t step .tables) trip (headOf t step) n (turn-count-most trip (headOf t step .answer)) (sized-head t step z, λ x. omega arith) .1 s in
-    omega arith
-
 pub clock-adds :
     (t : Tables) (step : Step) → Sized t → isAccepted (stepOf t step .answer) ≡ true → actsAtSite step ≡ true
     → siteAt t (placesOf t (lookOf step) .site) .clock + 1 ≤ siteAt (stepOf t step .tables) (placesOf t (lookOf step) .site) .clock
-unfolding stepOf
 clock-adds t step z e a =
-    ⊎-elim
-    (λ q. rw q (in-range-adds t step z (rw q at e) a))
-    (λ q. absurd (false≢true (rw q at e)))
-    (either (inRange t))
+    let s : ℕ = placesOf t (lookOf step) .site in
+    sized-accepted-has
+    t
+    step
+    z
+    (λ n u. siteAt t s .clock + 1 ≤ siteAt u s .clock)
+    (turn-ahead (lookOf step .trip) (siteAt t s .clock + 1) s)
+    (λ h. head-adds t step z h a)
+    e

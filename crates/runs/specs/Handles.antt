@@ -1,5 +1,5 @@
 -- An old handle reaches nobody: a slot's generation counts the accepted retires of the slot, and nothing else moves it. Assumes nothing.
-use Prim.Native.Nat.{ℕ, zero, suc, _+_, _%_, _≤_, _<_}
+use Prim.Native.Nat.{ℕ, _+_, _%_, _≤_, _<_}
 use native.Mathlib.Omega.{arith}
 use mathlib.Core.Path.{_≡_, refl, sym, ap, _∙_, subst}
 use mathlib.Core.Logic.{_≢_, ⊎-elim}
@@ -11,25 +11,23 @@ use Rattle.rules.specs.declared.answers.Trip.{Trip}
 use Rattle.rules.specs.Loops.{oneIf}
 use Rattle.rules.specs.LoopsLaws.{either, or-left, or-right, not-false, cond-keeps, and-right}
 use Rattle.rules.specs.Tables.{start, passageAt, slotOf, generationOf, handleOf, freeSlot, pastPassage}
-use Rattle.rules.specs.Ranges.{inRange}
 use Rattle.rules.specs.Answers.{isAccepted, answerValue}
 use Rattle.rules.specs.AnswersLaws.{accepted-fine, accepted-value}
 use Rattle.rules.specs.Parts.{isFree, isActive, abortedPassage}
 use Rattle.rules.specs.Checks.{badSite, badTimes}
 use Rattle.rules.specs.Stations.{isSwept, sweptSlot, losesHome, crashedSlot}
 use Rattle.rules.specs.Passages.{beginOf, retireOf}
-use Rattle.rules.specs.Machine.{lookOf, placesOf, seenOf, remains, decideOf, stored, headOf, slotPlaces, sweepTurn, crashTurn, turnOf, turnsUpTo, turnCount, stepInRangeOf, stepOf}
-use Rattle.rules.specs.StoredLaws.{Sized, Placed, passage-after-stored, passage-after-stored-other}
-use Rattle.rules.specs.RangesLaws.{placed-places, placed-slots}
-use Rattle.rules.specs.RangesKept.{turn-count-most}
+use Rattle.rules.specs.Machine.{lookOf, placesOf, seenOf, remains, decideOf, stored, headOf, turnOf, turnsUpTo, stepOf, tripPlaces, turnSeen}
+use Rattle.rules.specs.StoredLaws.{Sized, Placed, passage-after-stored, passage-after-stored-other, turn-stored}
+use Rattle.rules.specs.RangesLaws.{placed-places, placed-trip}
 use Rattle.rules.specs.RefusedLaws.{refused-leaves}
 use Rattle.rules.specs.Record.{rowOf, isNamed, flatOf}
 use Rattle.rules.specs.Runs.{Entry, runOf, entryOf, entriesOf, historyOf}
 use Rattle.rules.specs.Views.{Generation, Handle, deedOf}
 use Rattle.runs.specs.Types.{Passage, Tables, Step, Places, Seen, Outcome}
 use Rattle.runs.specs.Put.{same-or-other}
-use Rattle.runs.specs.Steps.{head-accepted, run-on}
-use Rattle.runs.specs.Sizes.{sized-start, sized-run, sized-step, sized-head, sized-turn}
+use Rattle.runs.specs.Steps.{accepted-turned, head-accepted, run-on}
+use Rattle.runs.specs.Sizes.{sized-start, sized-run, sized-step, sized-accepted-has}
 use Rattle.runs.specs.Plain.{repeat-has}
 use Rattle.runs.specs.Orphans.{retires}
 
@@ -115,9 +113,10 @@ head-generation t step z e =
     stored-generation t at _ z (placed-places t (lookOf step)) (λ p. moved (retires p step)) (m .own) (λ p n. rw (m .other p n))
 
 -- each slot of a sweep or a crash leaves the generation
-swept-generation : (site slot : ℕ) (seen : Seen) → sweptSlot site slot seen .passage .generation ≡ seen .passage .generation
-unfolding sweptSlot
-swept-generation site slot seen =
+turned-generation : (trip : Trip) (slot : ℕ) (seen : Seen) → turnSeen trip slot seen .passage .generation ≡ seen .passage .generation
+unfolding sweptSlot crashedSlot
+turned-generation Trip.Nowhere slot seen = refl
+turned-generation (Trip.Sweep site) slot seen =
     ⊎-elim
     (λ e.
     rw
@@ -125,54 +124,29 @@ swept-generation site slot seen =
     (at-home-generation (isActive (seen .passage .status) && eqb (seen .passage .home) site) (abortedPassage (seen .passage)) (seen .passage) _ refl refl))
     (λ e. rw e)
     (either (isSwept seen))
-
-crashed-generation : (site slot : ℕ) (seen : Seen) → crashedSlot site slot seen .passage .generation ≡ seen .passage .generation
-unfolding crashedSlot
-crashed-generation site slot seen = at-home-generation (losesHome site (seen .passage)) _ (seen .passage) _ refl refl
+turned-generation (Trip.Crash site) slot seen = at-home-generation (losesHome site (seen .passage)) _ (seen .passage) _ refl refl
 
 turn-generation :
     (trip : Trip) (slot : ℕ) (o : Outcome) → slot < 16 → Sized (o .tables) → (p : ℕ)
     → generationAt (turnOf trip slot o .tables) p ≡ generationAt (o .tables) p
-unfolding sweepTurn crashTurn
-turn-generation Trip.Nowhere slot o l z p = refl
-turn-generation (Trip.Sweep site) slot o l z p =
-    stored-generation (o .tables) (slotPlaces site slot) _ z (placed-slots site slot l) (λ p g. g) (swept-generation site slot _) (λ p n. refl) p
-turn-generation (Trip.Crash site) slot o l z p =
-    stored-generation (o .tables) (slotPlaces site slot) _ z (placed-slots site slot l) (λ p g. g) (crashed-generation site slot _) (λ p n. refl) p
-
-turns-generation :
-    (trip : Trip) (o : Outcome) (n : ℕ) → n ≤ 16 → Sized (o .tables)
-    → Sized (turnsUpTo trip o n .tables)
-    × ((p : ℕ) → generationAt (turnsUpTo trip o n .tables) p ≡ generationAt (o .tables) p)
-unfolding turnsUpTo
-turns-generation trip o zero l z = (z, λ p. refl)
-turns-generation trip o (suc n) l z =
-    let k = turns-generation trip o n (omega arith) z in (
-      sized-turn trip n (turnsUpTo trip o n) (k .0),
-      λ p. turn-generation trip n (turnsUpTo trip o n) l (k .0) p ∙ k .1 p,
-    )
+turn-generation trip slot o l z p =
+    rw
+    (turn-stored trip slot o)
+    (stored-generation (o .tables) (tripPlaces trip slot) _ z (placed-trip trip slot l) (λ p g. g) (turned-generation trip slot _) (λ p n. refl) p)
 
 -- an accepted step moves the generation of a slot by one if it is a retire of that slot, and by nothing else
 pub generation-after-step :
     (t : Tables) (step : Step) → Sized t → isAccepted (stepOf t step .answer) ≡ true → (p : ℕ)
     → generationAt (stepOf t step .tables) p ≡ cond (retires p step) ((generationAt t p + 1) % 256) (generationAt t p)
-unfolding stepOf stepInRangeOf
 generation-after-step t step z e p =
-    ⊎-elim
-    (λ q.
-    rw
-    q
-    (turns-generation
-    (lookOf step .trip)
-    (headOf t step)
-    (turnCount (lookOf step .trip) (headOf t step .answer))
-    (turn-count-most (lookOf step .trip) _)
-    (sized-head t step z)
-    .1
-    p
-    ∙ head-generation t step z (head-accepted t step e) p))
-    (λ q. absurd (false≢true (rw q at e)))
-    (either (inRange t))
+    sized-accepted-has
+    t
+    step
+    z
+    (λ n u. generationAt u p ≡ moved (retires p step) (generationAt t p))
+    (λ n o l y k. turn-generation (lookOf step .trip) n o l y p ∙ k)
+    (λ a. head-generation t step z a p)
+    e
 
 -- ---- runs
 
@@ -304,10 +278,6 @@ generation-comes-round before after p e =
 
 -- ---- begin
 
-accepted-in-range : (t : Tables) (step : Step) → isAccepted (stepOf t step .answer) ≡ true → inRange t ≡ true
-unfolding stepOf
-accepted-in-range t step a = ⊎-elim (λ q. q) (λ q. absurd (false≢true (rw q at a))) (either (inRange t))
-
 begun-handle :
     (t : Tables) (home slot q r : ℕ) → isAccepted (headOf t (Step.Begin home slot q r) .answer) ≡ true
     → (slot < 16) × (answerValue (headOf t (Step.Begin home slot q r) .answer) ≡ handleOf slot (generationAt t (slotOf slot)))
@@ -317,10 +287,12 @@ begun-handle t home slot q r a =
     ltb-false 15 slot (or-right (badSite home) _ (or-left (badSite home || ltb 15 slot) (badTimes q r) (accepted-fine _ _ a .fields))) in
     (omega arith, ap answerValue (accepted-value _ _ a))
 
-in-range-begun :
-    (t : Tables) (home slot q r : ℕ) → inRange t ≡ true → stepOf t (Step.Begin home slot q r) ≡ headOf t (Step.Begin home slot q r)
-unfolding stepOf stepInRangeOf turnsUpTo
-in-range-begun t home slot q r e = rw e
+-- a begin makes no turn
+accepted-begun :
+    (t : Tables) (home slot q r : ℕ) → isAccepted (stepOf t (Step.Begin home slot q r) .answer) ≡ true
+    → stepOf t (Step.Begin home slot q r) ≡ headOf t (Step.Begin home slot q r)
+unfolding turnsUpTo
+accepted-begun t home slot q r a = accepted-turned t (Step.Begin home slot q r) a
 
 -- the handle that an accepted begin gives names its slot, with the generation that the slot has
 pub handle-of-begin :
@@ -331,4 +303,4 @@ handle-of-begin t home slot q r a =
     let k = begun-handle t home slot q r (head-accepted t (Step.Begin home slot q r) a) in
     let l : slot < 16 = k .0 in
     let y : slotOf slot ≡ slot = omega arith in
-    rw (in-range-begun t home slot q r (accepted-in-range t (Step.Begin home slot q r) a), k .1, y) (omega arith, omega arith)
+    rw (accepted-begun t home slot q r a, k .1, y) (omega arith, omega arith)

@@ -1,6 +1,6 @@
 -- An object is let go only with its visit: what a station has promised, with the figures that the passage holds there, stays until home's word.
 -- Assumes nothing.
-use Prim.Native.Nat.{ℕ, zero, suc, _+_, _*_, _/_, _%_, _≤_, _<_}
+use Prim.Native.Nat.{ℕ, _+_, _*_, _/_, _%_, _<_}
 use native.Mathlib.Omega.{arith}
 use mathlib.Core.Path.{_≡_, refl, sym, ap, _∙_, subst₂}
 use mathlib.Core.Logic.{_≢_, ⊎-elim, _⊎_, inl, inr}
@@ -15,22 +15,20 @@ use Rattle.rules.specs.declared.answers.Trip.{Trip}
 use Rattle.rules.specs.declared.answers.Check.{Check}
 use Rattle.rules.specs.LoopsLaws.{either, cond-keeps}
 use Rattle.rules.specs.Tables.{start, pastObject, siteAt, objectAt, passageAt, visitAt, bankAt, objectSite, slotOf}
-use Rattle.rules.specs.Ranges.{inRange}
 use Rattle.rules.specs.Answers.{firstOf, settleOf}
 use Rattle.rules.specs.Parts.{nextClock, isHeldBy, taken, operated, unheld, freed, restored, eachOf, toldVisit, toldObjects}
 use Rattle.rules.specs.Stations.{isSwept, sweptSlot, crashedSlot}
 use Rattle.rules.specs.Rounds.{roundTold, closed, closeOf}
 use Rattle.rules.specs.Calls.{mailSlot, calledObject, called, deliverCallOf, deliverPhaseOneOf, deliverPhaseTwoOf, deliverBodyOf}
-use Rattle.rules.specs.Machine.{lookOf, placesOf, seenOf, bodyBank, decideOf, stored, headOf, slotPlaces, sweepTurn, crashTurn, turnOf, turnsUpTo, turnCount, stepInRangeOf, stepOf}
-use Rattle.rules.specs.StoredLaws.{Sized, Placed, visit-after-stored}
-use Rattle.rules.specs.RangesLaws.{placed-places, placed-slots}
-use Rattle.rules.specs.RangesKept.{turn-count-most}
+use Rattle.rules.specs.Machine.{lookOf, placesOf, seenOf, bodyBank, decideOf, stored, headOf, turnOf, stepOf, tripPlaces, turnSeen}
+use Rattle.rules.specs.StoredLaws.{Sized, Placed, visit-after-stored, turn-stored}
+use Rattle.rules.specs.RangesLaws.{placed-places, placed-trip}
 use Rattle.rules.specs.Runs.{runOf}
 use Rattle.rules.specs.Views.{settled, Objects, Mail, mailOf, deedOf}
 use Rattle.runs.specs.Types.{Visit, Call, Told, Body, Tables, Step, Places, Seen, Outcome}
 use Rattle.runs.specs.Put.{same-or-other}
 use Rattle.runs.specs.Steps.{run-on}
-use Rattle.runs.specs.Sizes.{sized-run, sized-step, sized-head, sized-turn}
+use Rattle.runs.specs.Sizes.{sized-run, sized-step, sized-step-has}
 use Rattle.runs.specs.Banks.{seen-object, object-after-stored, object-after-stored-other, each-at}
 use Rattle.runs.specs.Promised.{Promised, isWord, stored-has, promised-stays}
 
@@ -142,17 +140,22 @@ module _ (t : Tables) (at : Places) where
   mail-fast _ m (Mail.Quiet body objects visit) s b = same-fast _ (objects m (seenOf t at))
 
   -- one slot of a sweep, and one of a crash
-  swept-fast : (site : ℕ) → at .bank ≡ at .site → Fast t at (sweptSlot site (at .slot) (seenOf t at))
-  unfolding sweptSlot
-  swept-fast site b =
+  turned-fast : (trip : Trip) → at .bank ≡ at .site → Fast t at (turnSeen trip (at .slot) (seenOf t at))
+  unfolding sweptSlot crashedSlot
+  turned-fast Trip.Nowhere b = same-fast (seenOf t at) refl
+  turned-fast (Trip.Sweep site) b =
       ⊎-elim
       (λ e. rw e (let-go-fast (restored (at .slot)) _ (λ x q. let-go-other (at .slot) q _ x) refl b refl))
       (λ e. rw e (same-fast (seenOf t at) refl))
       (either (isSwept (seenOf t at)))
+  turned-fast (Trip.Crash site) b = same-fast (crashedSlot site (at .slot) (seenOf t at)) refl
 
-  crashed-fast : (site n : ℕ) → Fast t at (crashedSlot site n (seenOf t at))
-  unfolding crashedSlot
-  crashed-fast site n = same-fast (crashedSlot site n (seenOf t at)) refl
+-- neither makes a visit
+turned-gone : (trip : Trip) (n : ℕ) (seen : Seen) → seen .visit .there ≡ false → turnSeen trip n seen .visit .there ≡ false
+unfolding sweptSlot crashedSlot
+turned-gone Trip.Nowhere n seen e = e
+turned-gone (Trip.Sweep site) n seen e = cond-keeps (λ (x : Seen). x .visit .there ≡ false) (isSwept seen) _ seen refl e
+turned-gone (Trip.Crash site) n seen e = rw e
 
 seen-fast :
     (t : Tables) (step : Step) (place : ℕ) (rest : Bool) → Objects step
@@ -189,47 +192,21 @@ module _ (k p : ℕ) (slot : p < 16) where
       (λ n. inl (ap (λ (o : Object). o .holder) (object-after-stored-other t at left z h k n) ∙ e))
       (same-or-other (objectSite k) (at .bank))
 
-  -- a turn makes no visit
-  turn-gone :
-      (trip : Trip) (n : ℕ) (o : Outcome) → n < 16 → Sized (o .tables) → visitAt (o .tables) (objectSite k) p .there ≡ false
-      → visitAt (turnOf trip n o .tables) (objectSite k) p .there ≡ false
-  unfolding sweepTurn crashTurn sweptSlot crashedSlot
-  turn-gone Trip.Nowhere n o l z e = e
-  turn-gone (Trip.Sweep site) n o l z e =
-      stored-has (λ v. v .there ≡ false) (o .tables) (slotPlaces site n) _ z (placed-slots site n l) (objectSite k) p slot
-      (λ a b.
-      cond-keeps (λ (x : Seen). x .visit .there ≡ false) (isSwept (seenOf (o .tables) (slotPlaces site n))) _ (seenOf (o .tables) (slotPlaces site n)) refl (subst₂ (λ (x y : ℕ). visitAt (o .tables) x y .there ≡ false) a b e))
-      e
-  turn-gone (Trip.Crash site) n o l z e =
-      stored-has (λ v. v .there ≡ false) (o .tables) (slotPlaces site n) _ z (placed-slots site n l) (objectSite k) p slot
-      (λ a b.
-      let y : visitAt (o .tables) (site % 8) n .there ≡ false = subst₂ (λ (x y : ℕ). visitAt (o .tables) x y .there ≡ false) a b e in
-      rw y y)
-      e
-
-  turn-held :
-      (trip : Trip) (n : ℕ) (o : Outcome) → n < 16 → Sized (o .tables) → objectAt (o .tables) k .holder ≡ Holder.Slot p
+  turn-fast :
+      (trip : Trip) (n : ℕ) (o : Outcome) → n < 16 → Sized (o .tables) → HeldOrGone (o .tables)
       → HeldOrGone (turnOf trip n o .tables)
-  unfolding sweepTurn crashTurn
-  turn-held Trip.Nowhere n o l z e = inl e
-  turn-held (Trip.Sweep site) n o l z e =
-      stored-fast (o .tables) (slotPlaces site n) _ z (placed-slots site n l) (swept-fast (o .tables) (slotPlaces site n) site refl) e
-  turn-held (Trip.Crash site) n o l z e =
-      stored-fast (o .tables) (slotPlaces site n) _ z (placed-slots site n l) (crashed-fast (o .tables) (slotPlaces site n) site n) e
-
-  turns-fast :
-      (trip : Trip) (o : Outcome) (n : ℕ) → n ≤ 16 → Sized (o .tables) → HeldOrGone (o .tables)
-      → Sized (turnsUpTo trip o n .tables) × HeldOrGone (turnsUpTo trip o n .tables)
-  unfolding turnsUpTo
-  turns-fast trip o zero l z e = (z, e)
-  turns-fast trip o (suc n) l z e =
-      let y = turns-fast trip o n (omega arith) z e in (
-        sized-turn trip n (turnsUpTo trip o n) (y .0),
-        ⊎-elim
-            (λ x. turn-held trip n (turnsUpTo trip o n) l (y .0) x)
-            (λ x. inr (turn-gone trip n (turnsUpTo trip o n) l (y .0) x))
-            (y .1),
-      )
+  turn-fast trip n o l z h =
+      let at : Places = tripPlaces trip n in
+      rw
+      (turn-stored trip n o)
+      (⊎-elim
+      (λ e. stored-fast (o .tables) at _ z (placed-trip trip n l) (turned-fast (o .tables) at trip refl) e)
+      (λ e.
+      inr
+      (stored-has (λ v. v .there ≡ false) (o .tables) at _ z (placed-trip trip n l) (objectSite k) p slot
+      (λ a b. turned-gone trip n (seenOf (o .tables) at) (subst₂ (λ (x y : ℕ). visitAt (o .tables) x y .there ≡ false) a b e))
+      e))
+      h)
 
   head-fast : (t : Tables) (step : Step) → Sized t → objectAt t k .holder ≡ Holder.Slot p → HeldOrGone (headOf t step .tables)
   unfolding headOf
@@ -240,22 +217,17 @@ module _ (k p : ℕ) (slot : p < 16) where
       (t : Tables) (step : Step) → Sized t → objectAt t k .holder ≡ Holder.Slot p
       → (objectAt (stepOf t step .tables) k .holder ≡ Holder.Slot p)
       ⊎ (visitAt (stepOf t step .tables) (objectSite k) p .there ≡ false)
-  unfolding stepOf stepInRangeOf
   let-go-with-visit t step z e =
-      ⊎-elim
-      (λ q.
-      rw
-      q
-      (turns-fast
-      (lookOf step .trip)
-      (headOf t step)
-      (turnCount (lookOf step .trip) (headOf t step .answer))
-      (turn-count-most (lookOf step .trip) _)
-      (sized-head t step z)
-      (head-fast t step z e)
-      .1))
-      (λ q. rw q (inl e))
-      (either (inRange t))
+      sized-step-has
+      t
+      step
+      z
+      (λ n u. HeldOrGone u)
+      (turn-fast (lookOf step .trip))
+      (λ a. head-fast t step z e)
+      HeldOrGone
+      (inl e)
+      (λ u y. y)
 
 -- ---- runs
 

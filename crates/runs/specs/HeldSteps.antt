@@ -10,6 +10,7 @@ use lib.ListN.{getD}
 use borrow.Author.Tests.{ltb-false}
 use Rattle.rules.specs.declared.tables.Holder.{Holder}
 use Rattle.rules.specs.declared.tables.Object.{Object}
+use Rattle.rules.specs.declared.answers.Trip.{Trip}
 use Rattle.rules.specs.declared.answers.Check.{Check}
 use Rattle.rules.specs.Limits.{widthMost}
 use Rattle.rules.specs.LoopsLaws.{either, or-left, or-right}
@@ -22,7 +23,7 @@ use Rattle.rules.specs.Rounds.{sentOut, roundTold, closed, openOf, closeOf}
 use Rattle.rules.specs.Calls.{callSite, badCall, mailClock, mailSlot, atHome, replyOf, askedAt, calledVisit, calledObject, called, invokeOf, emptyOf, deliverCallOf, deliverPhaseOneOf, deliverPhaseTwoOf, deliverAnswerOf, deliverBodyOf, lost, dropOf}
 use Rattle.rules.specs.Stations.{leftSite, isSwept, losesHome, crashedVisit, sweptSlot, crashedSlot}
 use Rattle.rules.specs.Passages.{beginOf, abortOf, retired, retireOf}
-use Rattle.rules.specs.Machine.{seenOf, bodyBank}
+use Rattle.rules.specs.Machine.{seenOf, bodyBank, turnSeen}
 use Rattle.rules.specs.RangesLaws.{set-keeps-at}
 use Rattle.runs.specs.Types.{Site, Kind, Visit, Call, Asked, Told, Body, Message, Tables, Places, Seen}
 use Rattle.runs.specs.TimesKept.{asked-says}
@@ -260,7 +261,7 @@ module _ (t : Tables) (at : Places) (k : Held t) where
       settled-keeps _ _ _ (λ f. stays _ refl (λ y. y) (no-call noMessage refl))
 
   -- one slot of a sweep: the visit that goes has let go
-  pub swept-keeps : (site : ℕ) → at .bank ≡ at .site → Keeps t at (sweptSlot site (at .slot) (seenOf t at))
+  swept-keeps : (site : ℕ) → at .bank ≡ at .site → Keeps t at (sweptSlot site (at .slot) (seenOf t at))
   unfolding sweptSlot
   swept-keeps site b =
       ⊎-elim
@@ -269,7 +270,7 @@ module _ (t : Tables) (at : Places) (k : Held t) where
       (either (isSwept (seenOf t at)))
 
   -- one slot of a crash: the visit stays
-  pub crashed-keeps : (site slot : ℕ) → Keeps t at (crashedSlot site slot (seenOf t at))
+  crashed-keeps : (site slot : ℕ) → Keeps t at (crashedSlot site slot (seenOf t at))
   unfolding crashedSlot
   crashed-keeps site slot =
       let v : Visit = visitAt t (at .site) (at .slot) in
@@ -279,3 +280,8 @@ module _ (t : Tables) (at : Places) (k : Held t) where
       refl
       (λ e. sym (changed-there v w (crashed-there (losesHome site (passageAt t (at .slot))) (siteAt t (at .site) .clock) v)) ∙ e)
       call-stays
+
+  pub turned-keeps : (trip : Trip) → at .bank ≡ at .site → Keeps t at (turnSeen trip (at .slot) (seenOf t at))
+  turned-keeps Trip.Nowhere b = seen-stays
+  turned-keeps (Trip.Sweep site) b = swept-keeps site b
+  turned-keeps (Trip.Crash site) b = crashed-keeps site (at .slot)

@@ -10,15 +10,16 @@ use Rattle.rules.specs.declared.answers.Trip.{Trip}
 use Rattle.rules.specs.Tables.{pastObject, objectAt, visitAt, messageAt, objectSite, noObject, noMessage, pastMessage, start}
 use Rattle.rules.specs.Rounds.{refreshOf, terminateOf, prepareOf, askOf, tellOf}
 use Rattle.rules.specs.Stations.{tickOf, sweepOf, crashOf, recoverOf}
-use Rattle.rules.specs.Machine.{lookOf, placesOf, seenOf, decideOf, headOf, slotPlaces, sweepTurn, crashTurn, turnOf, stepOf}
-use Rattle.rules.specs.RangesLaws.{placed-places, placed-slots}
+use Rattle.rules.specs.Machine.{lookOf, placesOf, seenOf, decideOf, headOf, tripPlaces, turnOf, stepOf}
+use Rattle.rules.specs.StoredLaws.{turn-stored}
+use Rattle.rules.specs.RangesLaws.{placed-places, placed-trip}
 use Rattle.rules.specs.Runs.{runOf}
 use Rattle.runs.specs.Types.{Call, Body, Message, Tables, Step, Outcome}
 use Rattle.runs.specs.Plain.{repeat-has}
 use Rattle.runs.specs.Sizes.{step-holds, run-holds, sized-start}
 use Rattle.runs.specs.Banks.{nobody-holds}
 use Rattle.runs.specs.HeldStore.{GoesHome, Held, Keeps, held-stored}
-use Rattle.runs.specs.HeldSteps.{no-call, station-keeps, begin-keeps, retire-keeps, drop-keeps, sent-keeps, invoke-keeps, open-keeps, abort-keeps, close-keeps, deliver-keeps, swept-keeps, crashed-keeps}
+use Rattle.runs.specs.HeldSteps.{no-call, station-keeps, begin-keeps, retire-keeps, drop-keeps, sent-keeps, invoke-keeps, open-keeps, abort-keeps, close-keeps, deliver-keeps, turned-keeps}
 
 -- ---- every step and every turn
 
@@ -48,12 +49,10 @@ unfolding headOf
 held-head t step k = held-stored t _ _ k (placed-places t (lookOf step)) (decided-keeps t step _ _ k)
 
 held-turn : (trip : Trip) (slot : ℕ) (o : Outcome) → slot < 16 → Held (o .tables) → Held (turnOf trip slot o .tables)
-unfolding sweepTurn crashTurn
-held-turn Trip.Nowhere slot o l k = k
-held-turn (Trip.Sweep site) slot o l k =
-    held-stored (o .tables) (slotPlaces site slot) _ k (placed-slots site slot l) (swept-keeps (o .tables) (slotPlaces site slot) k site refl)
-held-turn (Trip.Crash site) slot o l k =
-    held-stored (o .tables) (slotPlaces site slot) _ k (placed-slots site slot l) (crashed-keeps (o .tables) (slotPlaces site slot) k site slot)
+held-turn trip slot o l k =
+    rw
+    (turn-stored trip slot o)
+    (held-stored (o .tables) (tripPlaces trip slot) _ k (placed-trip trip slot l) (turned-keeps (o .tables) (tripPlaces trip slot) k trip refl))
 
 -- ---- the start, and every run
 

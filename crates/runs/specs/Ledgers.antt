@@ -9,16 +9,16 @@ use Rattle.rules.specs.Tables.{start, passageAt, visitPlace, pastPassage, pastV
 use Rattle.rules.specs.Answers.{isAccepted}
 use Rattle.rules.specs.AnswersLaws.{accepted-fine}
 use Rattle.rules.specs.Ranges.{inRange}
-use Rattle.rules.specs.RangesLaws.{placed-places, placed-slots, seen-in-range, stored-in-range}
-use Rattle.rules.specs.RangesKept.{decided-in-range, swept-in-range, crashed-in-range, start-in-range}
-use Rattle.rules.specs.StoredLaws.{Sized, sized-after-stored}
+use Rattle.rules.specs.RangesLaws.{placed-places, placed-trip, seen-in-range, stored-in-range}
+use Rattle.rules.specs.RangesKept.{decided-in-range, turned-in-range, start-in-range}
+use Rattle.rules.specs.StoredLaws.{Sized, turn-stored, sized-after-stored}
 use Rattle.rules.specs.Checks.{badHandle, badTimes}
 use Rattle.rules.specs.Parts.{isActive, isAborted, isRunning}
-use Rattle.rules.specs.Stations.{tickOf, tickDone, sweepOf, sweepDone, crashOf, crashDone, recoverOf, recoverDone, sweptSlot, crashedSlot}
+use Rattle.rules.specs.Stations.{tickOf, tickDone, sweepOf, sweepDone, crashOf, crashDone, recoverOf, recoverDone}
 use Rattle.rules.specs.Passages.{beginOf, beginDone, abortOf, abortDone, retireOf, retireDone}
 use Rattle.rules.specs.Rounds.{refreshOf, terminateOf, prepareOf, openOf, openDone, askOf, askDone, closeOf, closeDone, tellOf, tellDone}
 use Rattle.rules.specs.Calls.{invokeOf, invokeDone, dropOf, dropDone}
-use Rattle.rules.specs.Machine.{lookOf, placesOf, seenOf, remains, decideOf, headOf, slotPlaces, sweepTurn, crashTurn, turnOf}
+use Rattle.rules.specs.Machine.{lookOf, placesOf, seenOf, remains, decideOf, headOf, tripPlaces, turnSeen, turnOf}
 use Rattle.rules.specs.Runs.{runOf}
 use Rattle.runs.specs.Types.{Kind, Passage, Body, Tables, Step, Places, Seen, Outcome}
 use Rattle.rules.specs.declared.answers.Trip.{Trip}
@@ -27,7 +27,7 @@ use Rattle.runs.specs.View.{Ledger, mailOf, viewOf, noLedger}
 use Rattle.runs.specs.Clauses.{Holds}
 use Rattle.runs.specs.LifeKept.{free-kept}
 use Rattle.runs.specs.Store.{nextLedgers, Fitting, settled-fits, fitting-kept}
-use Rattle.runs.specs.StationFits.{site-fits, lost-fits, swept-fits, crashed-fits}
+use Rattle.runs.specs.StationFits.{site-fits, same-fits, lost-fits, swept-fits, crashed-fits}
 use Rattle.runs.specs.LifeFits.{begin-fits, abort-fits, retire-fits}
 use Rattle.runs.specs.OpenFits.{refresh-fits, terminate-fits, prepare-fits}
 use Rattle.runs.specs.MailFits.{ask-fits, tell-fits}
@@ -54,11 +54,12 @@ headLedgers t step ls =
     (decideOf step (placesAt t step .message) (remains t (placesAt t step .slot)) (seenAt t step) .left)
 
 abbrev pub turnLedgers : Trip → ℕ → Tables → (ℕ → Ledger) → ℕ → Ledger
-turnLedgers Trip.Nowhere slot t ls = ls
-turnLedgers (Trip.Sweep site) slot t ls =
-    nextLedgers ls (slotPlaces site slot) (seenOf t (slotPlaces site slot)) (sweptSlot site slot (seenOf t (slotPlaces site slot)))
-turnLedgers (Trip.Crash site) slot t ls =
-    nextLedgers ls (slotPlaces site slot) (seenOf t (slotPlaces site slot)) (crashedSlot site slot (seenOf t (slotPlaces site slot)))
+turnLedgers trip slot t ls =
+    nextLedgers
+    ls
+    (tripPlaces trip slot)
+    (seenOf t (tripPlaces trip slot))
+    (turnSeen trip slot (seenOf t (tripPlaces trip slot)))
 
 -- from the start, where no slot has a ledger
 unfoldable pub ledgersOf : List Step → ℕ → Ledger
@@ -154,53 +155,39 @@ head-kept t step ls k e =
           (k .slots);
     }
 
+turned-fits :
+    (t : Tables) (trip : Trip) (slot : ℕ)
+    → Fitting t (tripPlaces trip slot) (turnSeen trip slot (seenOf t (tripPlaces trip slot)))
+turned-fits t Trip.Nowhere slot = same-fits t (tripPlaces Trip.Nowhere slot)
+turned-fits t (Trip.Sweep site) slot = swept-fits t site slot
+turned-fits t (Trip.Crash site) slot = crashed-fits t site slot
+
 turn-kept :
     (trip : Trip) (slot : ℕ) (o : Outcome) (ls : ℕ → Ledger) → slot < 16 → Kept (o .tables) ls
     → Kept (turnOf trip slot o .tables) (turnLedgers trip slot (o .tables) ls)
-unfolding sweepTurn crashTurn
-turn-kept Trip.Nowhere slot o ls i k = k
-turn-kept (Trip.Sweep site) slot o ls i k =
-    record {
+turn-kept trip slot o ls i k =
+    rw
+    (turn-stored trip slot o)
+    (record {
       range =
           stored-in-range
           (o .tables)
-          (slotPlaces site slot)
+          (tripPlaces trip slot)
           _
           (k .range)
-          (swept-in-range site slot _ (seen-in-range (o .tables) (slotPlaces site slot) (k .range) (placed-slots site slot i)));
-      sized = sized-after-stored (o .tables) (slotPlaces site slot) _ (k .sized);
+          (turned-in-range trip slot _ (seen-in-range (o .tables) (tripPlaces trip slot) (k .range) (placed-trip trip slot i)));
+      sized = sized-after-stored (o .tables) (tripPlaces trip slot) _ (k .sized);
       slots =
           fitting-kept
           (o .tables)
-          (slotPlaces site slot)
+          (tripPlaces trip slot)
           _
           (k .sized)
-          (placed-slots site slot i)
-          (swept-fits (o .tables) site slot)
+          (placed-trip trip slot i)
+          (turned-fits (o .tables) trip slot)
           ls
           (k .slots);
-    }
-turn-kept (Trip.Crash site) slot o ls i k =
-    record {
-      range =
-          stored-in-range
-          (o .tables)
-          (slotPlaces site slot)
-          _
-          (k .range)
-          (crashed-in-range site slot _ (seen-in-range (o .tables) (slotPlaces site slot) (k .range) (placed-slots site slot i)));
-      sized = sized-after-stored (o .tables) (slotPlaces site slot) _ (k .sized);
-      slots =
-          fitting-kept
-          (o .tables)
-          (slotPlaces site slot)
-          _
-          (k .sized)
-          (placed-slots site slot i)
-          (crashed-fits (o .tables) site slot)
-          ls
-          (k .slots);
-    }
+    })
 
 -- ---- and holds at the start
 

@@ -1,7 +1,6 @@
 -- A station that has promised keeps its promise until home's word: a prepared visit goes by the close of its commit round at home,
 -- or by the delivery there of a commit's phase 2 for its slot, and by no other step; no sweep, crash, abort or retire takes it. Assumes nothing.
-use Prim.Native.Nat.{ℕ, zero, suc, _%_, _≤_, _<_}
-use native.Mathlib.Omega.{arith}
+use Prim.Native.Nat.{ℕ, _%_, _<_}
 use mathlib.Core.Path.{_≡_, refl, sym, ap, _∙_, subst₂}
 use mathlib.Core.Logic.{_≢_, ⊎-elim, _⊎_, inl, inr}
 use mathlib.Core.Bool.{Bool, true, false, not, _&&_, _||_, true≢false, cond}
@@ -12,17 +11,15 @@ use Rattle.rules.specs.declared.answers.Trip.{Trip}
 use Rattle.rules.specs.declared.answers.Check.{Check}
 use Rattle.rules.specs.LoopsLaws.{either, cond-keeps}
 use Rattle.rules.specs.Tables.{start, passageAt, visitAt, messageAt, slotOf}
-use Rattle.rules.specs.Ranges.{inRange}
 use Rattle.rules.specs.Answers.{isAccepted, firstOf, settleOf}
 use Rattle.rules.specs.Parts.{whereThere, toldOf, toldVisit}
 use Rattle.rules.specs.Stations.{sweptSlot, losesHome, crashedSlot}
 use Rattle.rules.specs.Passages.{beginOf, abortOf}
 use Rattle.rules.specs.Rounds.{openOf, terminateOf, prepareOf, closeOf}
 use Rattle.rules.specs.Calls.{deliverCallOf, deliverPhaseOneOf, deliverPhaseTwoOf, deliverBodyOf}
-use Rattle.rules.specs.Machine.{lookOf, placesOf, seenOf, decideOf, stored, headOf, slotPlaces, sweepTurn, crashTurn, turnOf, turnsUpTo, turnCount, stepInRangeOf, stepOf}
-use Rattle.rules.specs.StoredLaws.{Sized, Placed, visit-place-same, visit-after-stored, visit-after-stored-other}
-use Rattle.rules.specs.RangesLaws.{placed-places, placed-slots}
-use Rattle.rules.specs.RangesKept.{turn-count-most}
+use Rattle.rules.specs.Machine.{lookOf, placesOf, seenOf, decideOf, stored, headOf, turnOf, stepOf, tripPlaces, turnSeen}
+use Rattle.rules.specs.StoredLaws.{Sized, Placed, visit-place-same, visit-after-stored, visit-after-stored-other, turn-stored}
+use Rattle.rules.specs.RangesLaws.{placed-places, placed-trip}
 use Rattle.rules.specs.RefusedLaws.{refused-leaves}
 use Rattle.rules.specs.Record.{flatOf, isStep}
 use Rattle.rules.specs.Runs.{runOf}
@@ -32,7 +29,7 @@ use Rattle.runs.specs.Put.{same-or-other}
 use Rattle.runs.specs.TimesKept.{asked-says}
 use Rattle.runs.specs.Rests.{isPrepare, carriesCommit}
 use Rattle.runs.specs.Orphans.{tellsPrepare}
-use Rattle.runs.specs.Sizes.{sized-run, sized-head, sized-turn}
+use Rattle.runs.specs.Sizes.{sized-run, sized-step-has}
 
 -- ---- definitions
 
@@ -154,15 +151,17 @@ prepared-not-swept site n seen e = rw (unswept (seen .visit .there))
     unswept true = rw e
     unswept false = refl
 
--- a crash leaves every visit there
-crashed-there : (site n : ℕ) (seen : Seen) → seen .visit .there ≡ true → crashedSlot site n seen .visit .there ≡ true
+-- a crash leaves every visit there; what is kept on the way is kept by each slot
+turned-firm : (trip : Trip) (n : ℕ) (seen : Seen) → Firm trip (seen .visit) → Firm trip (turnSeen trip n seen .visit)
 unfolding crashedSlot
-crashed-there site n seen e =
+turned-firm Trip.Nowhere n seen k = k
+turned-firm (Trip.Sweep site) n seen k = rw (prepared-not-swept site n seen (k .1)) k
+turned-firm (Trip.Crash site) n seen k =
     changed-there
     (seen .visit)
     _
-    e
-    (cond-keeps (λ (v : Visit). v .there ≡ true) (losesHome site (seen .passage) || not (seen .visit .prepared)) _ (seen .visit) e e)
+    k
+    (cond-keeps (λ (v : Visit). v .there ≡ true) (losesHome site (seen .passage) || not (seen .visit .prepared)) _ (seen .visit) k k)
 
 -- ---- steps, for the visit of one slot at one site
 
@@ -203,70 +202,37 @@ module _ (s p : ℕ) (slot : p < 16) where
   turn-firm :
       (trip : Trip) (n : ℕ) (o : Outcome) → n < 16 → Sized (o .tables) → Firm trip (visitAt (o .tables) s p)
       → Firm trip (visitAt (turnOf trip n o .tables) s p)
-  unfolding sweepTurn crashTurn
-  turn-firm Trip.Nowhere n o l z k = k
-  turn-firm (Trip.Sweep site) n o l z k =
-      stored-has
-      (Firm (Trip.Sweep site))
+  turn-firm trip n o l z k =
+      rw
+      (turn-stored trip n o)
+      (stored-has
+      (Firm trip)
       (o .tables)
-      (slotPlaces site n)
+      (tripPlaces trip n)
       _
       z
-      (placed-slots site n l)
+      (placed-trip trip n l)
       s
       p
       slot
-      (λ a b.
-      let y : Firm (Trip.Sweep site) (visitAt (o .tables) (site % 8) n) = subst₂ (λ (x w : ℕ). Firm (Trip.Sweep site) (visitAt (o .tables) x w)) a b k in
-      rw (prepared-not-swept site n (seenOf (o .tables) (slotPlaces site n)) (y .1)) y)
-      k
-  turn-firm (Trip.Crash site) n o l z k =
-      stored-has
-      (Firm (Trip.Crash site))
-      (o .tables)
-      (slotPlaces site n)
-      _
-      z
-      (placed-slots site n l)
-      s
-      p
-      slot
-      (λ a b.
-      crashed-there site n (seenOf (o .tables) (slotPlaces site n)) (subst₂ (λ (x w : ℕ). visitAt (o .tables) x w .there ≡ true) a b k))
-      k
-
-  turns-firm :
-      (trip : Trip) (o : Outcome) (n : ℕ) → n ≤ 16 → Sized (o .tables) → Firm trip (visitAt (o .tables) s p)
-      → Sized (turnsUpTo trip o n .tables) × Firm trip (visitAt (turnsUpTo trip o n .tables) s p)
-  unfolding turnsUpTo
-  turns-firm trip o zero l z k = (z, k)
-  turns-firm trip o (suc n) l z k =
-      let y = turns-firm trip o n (omega arith) z k in
-      (sized-turn trip n (turnsUpTo trip o n) (y .0), turn-firm trip n (turnsUpTo trip o n) l (y .0) (y .1))
+      (λ a b. turned-firm trip n (seenOf (o .tables) (tripPlaces trip n)) (subst₂ (λ (x w : ℕ). Firm trip (visitAt (o .tables) x w)) a b k))
+      k)
 
   -- in any tables: a promised visit is there after every step that is no word of home to it
   pub promised-stays :
       (t : Tables) (step : Step) → Sized t → Promised t s p → isWord t s p step ≡ false
       → visitAt (stepOf t step .tables) s p .there ≡ true
-  unfolding stepOf stepInRangeOf
   promised-stays t step z k f =
-      ⊎-elim
-      (λ q.
-      rw
-      q
-      (firm-there
-      (lookOf step .trip)
-      _
-      (turns-firm
-      (lookOf step .trip)
-      (headOf t step)
-      (turnCount (lookOf step .trip) (headOf t step .answer))
-      (turn-count-most (lookOf step .trip) _)
-      (sized-head t step z)
-      (head-firm t step z k f)
-      .1)))
-      (λ q. rw q (k .there))
-      (either (inRange t))
+      sized-step-has
+      t
+      step
+      z
+      (λ n u. Firm (lookOf step .trip) (visitAt u s p))
+      (turn-firm (lookOf step .trip))
+      (λ a. head-firm t step z k f)
+      (λ u. visitAt u s p .there ≡ true)
+      (k .there)
+      (λ u. firm-there (lookOf step .trip) (visitAt u s p))
 
   -- so where it is gone, the step was home's word, and was accepted
   pub promised-until-word :

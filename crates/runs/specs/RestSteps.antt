@@ -1,6 +1,6 @@
 -- What each step does to the width that stands of an object: only a commit changes it, and then the object is free and keeps its value.
 -- The idea: by the records that a step leaves, then by its store, then through the turns of a sweep or a crash. Assumes nothing.
-use Prim.Native.Nat.{ℕ, zero, suc, _+_, _*_, _/_, _%_, _≤_, _<_}
+use Prim.Native.Nat.{ℕ, _+_, _*_, _/_, _%_, _<_}
 use native.Mathlib.Omega.{arith}
 use mathlib.Core.Path.{_≡_, refl, subst}
 use mathlib.Core.Logic.{inl, ⊎-elim}
@@ -10,23 +10,21 @@ use lib.ListN.{getD}
 use Rattle.rules.specs.declared.tables.Object.{Object}
 use Rattle.rules.specs.declared.answers.Check.{Check}
 use Rattle.rules.specs.declared.answers.Trip.{Trip}
-use Rattle.rules.specs.LoopsLaws.{either, cond-keeps}
+use Rattle.rules.specs.LoopsLaws.{cond-keeps}
 use Rattle.rules.specs.Tables.{pastObject, objectAt, bankAt, objectSite, slotOf}
-use Rattle.rules.specs.Ranges.{inRange}
-use Rattle.rules.specs.RangesLaws.{placed-places, placed-slots}
-use Rattle.rules.specs.RangesKept.{turn-count-most}
+use Rattle.rules.specs.RangesLaws.{placed-places, placed-trip}
 use Rattle.rules.specs.Answers.{firstOf, settleOf}
 use Rattle.rules.specs.Parts.{nextClock, freed, restored, largestQuiesce, toldObjects, toldOf}
 use Rattle.rules.specs.Stations.{isSwept, sweptSlot, crashedSlot}
 use Rattle.rules.specs.Rounds.{closeOf, closed, roundTold}
 use Rattle.rules.specs.Calls.{mailClock, mailSlot, calledObject, called, deliverCallOf, deliverPhaseOneOf, deliverPhaseTwoOf, deliverBodyOf}
-use Rattle.rules.specs.Machine.{lookOf, placesOf, seenOf, decideOf, stored, headOf, slotPlaces, sweepTurn, crashTurn, turnOf, turnsUpTo, turnCount, stepInRangeOf, stepOf}
-use Rattle.rules.specs.StoredLaws.{Sized, Placed}
+use Rattle.rules.specs.Machine.{lookOf, placesOf, seenOf, decideOf, stored, headOf, turnOf, stepOf, tripPlaces, turnSeen}
+use Rattle.rules.specs.StoredLaws.{Sized, Placed, turn-stored}
 use Rattle.rules.specs.Views.{settled, Objects, Mail, mailOf, deedOf}
 use Rattle.runs.specs.Types.{Kind, Call, Told, Body, Tables, Step, Outcome, Places, Seen}
 use Rattle.runs.specs.Put.{same-or-other}
 use Rattle.runs.specs.Banks.{seen-object, object-after-stored, object-after-stored-other, each-at}
-use Rattle.runs.specs.Sizes.{sized-head, sized-turn}
+use Rattle.runs.specs.Sizes.{sized-step-has}
 use Rattle.runs.specs.Ledgers.{seenAt}
 use Rattle.runs.specs.Orphans.{tellsPrepare}
 use Rattle.runs.specs.Rests.{isPrepare, carriesCommit, commits, Stands, Turned, stands-after-turned, standing-after-call, stands-after-freed, standing-after-restored, unheld-after-restored, set-at}
@@ -165,11 +163,12 @@ head-stands t step z =
 
 -- ---- the turns of a sweep and of a crash
 
-swept-turned :
-    (site slot : ℕ) (seen : Seen) (i : ℕ) → i < 4
-    → Turned (getD (seen .objects) i pastObject) (getD (sweptSlot site slot seen .objects) i pastObject)
-unfolding sweptSlot
-swept-turned site slot seen i l =
+seen-turned :
+    (trip : Trip) (slot : ℕ) (seen : Seen) (i : ℕ) → i < 4
+    → Turned (getD (seen .objects) i pastObject) (getD (turnSeen trip slot seen .objects) i pastObject)
+unfolding sweptSlot crashedSlot
+seen-turned Trip.Nowhere slot seen i l = (refl, λ u. refl)
+seen-turned (Trip.Sweep site) slot seen i l =
     cond-keeps
     (λ (x : Seen). Turned (getD (seen .objects) i pastObject) (getD (x .objects) i pastObject))
     (isSwept seen)
@@ -179,71 +178,39 @@ swept-turned site slot seen i l =
     (each-at (restored slot) (seen .objects) i l)
     (standing-after-restored slot (getD (seen .objects) i pastObject), unheld-after-restored slot (getD (seen .objects) i pastObject)))
     (refl, λ u. refl)
+seen-turned (Trip.Crash site) slot seen i l = (refl, λ u. refl)
 
 turn-turned :
     (trip : Trip) (slot : ℕ) (o : Outcome) → slot < 16 → Sized (o .tables) → (k : ℕ)
     → Turned (objectAt (o .tables) k) (objectAt (turnOf trip slot o .tables) k)
-unfolding sweepTurn crashTurn crashedSlot
-turn-turned Trip.Nowhere slot o l z k = (refl, λ u. refl)
-turn-turned (Trip.Sweep site) slot o l z k =
-    stored-all
+turn-turned trip slot o l z k =
+    rw
+    (turn-stored trip slot o)
+    (stored-all
     Turned
     (λ x. (refl, λ u. refl))
     (o .tables)
-    (slotPlaces site slot)
+    (tripPlaces trip slot)
     _
     z
-    (placed-slots site slot l)
-    (swept-turned site slot (seenOf (o .tables) (slotPlaces site slot)))
-    k
-turn-turned (Trip.Crash site) slot o l z k =
-    stored-all
-    Turned
-    (λ x. (refl, λ u. refl))
-    (o .tables)
-    (slotPlaces site slot)
-    _
-    z
-    (placed-slots site slot l)
-    (λ i j. (refl, λ u. refl))
-    k
+    (placed-trip trip slot l)
+    (seen-turned trip slot (seenOf (o .tables) (tripPlaces trip slot)))
+    k)
 
--- ---- so through all turns, and for every step
+-- ---- so through all turns, and for every step, accepted or not
 
-module _ (commit : Bool) (t : Tables) (trip : Trip) (o : Outcome) (z : Sized (o .tables))
-    (own : (k : ℕ) → Stands commit (objectAt t k) (objectAt (o .tables) k)) where
-  turns-stand :
-      (n : ℕ) → n ≤ 16
-      → Sized (turnsUpTo trip o n .tables)
-      × ((k : ℕ) → Stands commit (objectAt t k) (objectAt (turnsUpTo trip o n .tables) k))
-  unfolding turnsUpTo
-  turns-stand zero l = (z, own)
-  turns-stand (suc n) l =
-      let r = turns-stand n (omega arith) in (
-        sized-turn trip n (turnsUpTo trip o n) (r .0),
-        λ k. stands-after-turned commit (objectAt t k) (objectAt (turnsUpTo trip o n .tables) k) _ (r .1 k) (turn-turned trip n (turnsUpTo trip o n) l (r .0) k),
-      )
-
--- whatever the step, accepted or not
 pub step-stands :
     (t : Tables) (step : Step) → Sized t → (k : ℕ)
     → Stands (commits step (seenAt t step)) (objectAt t k) (objectAt (stepOf t step .tables) k)
-unfolding stepOf stepInRangeOf
 step-stands t step z k =
-    ⊎-elim
-    (λ q.
-    rw
-    q
-    (turns-stand
-    (commits step (seenAt t step))
+    let commit : Bool = commits step (seenAt t step) in
+    sized-step-has
     t
-    (lookOf step .trip)
-    (headOf t step)
-    (sized-head t step z)
-    (head-stands t step z)
-    (turnCount (lookOf step .trip) (headOf t step .answer))
-    (turn-count-most (lookOf step .trip) _)
-    .1
-    k))
-    (λ q. rw q (inl refl))
-    (either (inRange t))
+    step
+    z
+    (λ n u. Stands commit (objectAt t k) (objectAt u k))
+    (λ n o l y e. stands-after-turned commit (objectAt t k) (objectAt (o .tables) k) _ e (turn-turned (lookOf step .trip) n o l y k))
+    (λ a. head-stands t step z k)
+    (λ u. Stands commit (objectAt t k) (objectAt u k))
+    (inl refl)
+    (λ u e. e)

@@ -1,17 +1,18 @@
 -- What every store keeps is kept by every step and in every run; first of all the lengths of the tables, 8, 32, 16, 128 and 32.
+-- What else is shown of a step by its own store and its turns is shown of tables of these lengths.
 -- Assumes nothing.
-use Prim.Native.Nat.{ℕ, _<_}
+use Prim.Native.Nat.{ℕ, suc, _<_}
 use mathlib.Core.Path.{_≡_, refl}
 use mathlib.Core.Bool.{true}
 use mathlib.Core.List.{List}
 use Rattle.rules.specs.declared.answers.Trip.{Trip}
 use Rattle.rules.specs.Tables.{start}
 use Rattle.rules.specs.Answers.{isAccepted}
-use Rattle.rules.specs.Machine.{headOf, sweepTurn, crashTurn, turnOf, stepOf}
-use Rattle.rules.specs.StoredLaws.{Sized, sized-after-stored}
+use Rattle.rules.specs.Machine.{lookOf, headOf, turnOf, stepOf}
+use Rattle.rules.specs.StoredLaws.{Sized, sized-after-stored, sized-after-turn, sized-after-step}
 use Rattle.rules.specs.Runs.{runOf}
 use Rattle.runs.specs.Types.{Tables, Step, Outcome}
-use Rattle.runs.specs.Steps.{step-keeps, run-keeps}
+use Rattle.runs.specs.Steps.{turnedOf, turnsOf, accepted-has, step-has, step-keeps, run-keeps}
 
 -- ---- an invariant of the tables alone, without a ghost
 
@@ -59,14 +60,10 @@ unfolding headOf
 sized-head t step z = sized-after-stored t _ _ z
 
 pub sized-turn : (trip : Trip) (slot : ℕ) (o : Outcome) → Sized (o .tables) → Sized (turnOf trip slot o .tables)
-unfolding sweepTurn crashTurn
-sized-turn Trip.Nowhere slot o z = z
-sized-turn (Trip.Sweep site) slot o z = sized-after-stored (o .tables) _ _ z
-sized-turn (Trip.Crash site) slot o z = sized-after-stored (o .tables) _ _ z
+sized-turn = sized-after-turn
 
 pub sized-step : (t : Tables) (step : Step) → Sized t → Sized (stepOf t step .tables)
-sized-step t step z =
-    step-holds Sized (λ u s k e. sized-head u s k) (λ trip slot o l k. sized-turn trip slot o k) t step z
+sized-step = sized-after-step
 
 pub sized-from : (t : Tables) (ss : List Step) → Sized t → Sized (runOf t ss)
 sized-from t ss z =
@@ -74,3 +71,28 @@ sized-from t ss z =
 
 pub sized-run : (ss : List Step) → Sized (runOf start ss)
 sized-run ss = sized-from start ss sized-start
+
+-- ---- of tables of these lengths: what holds once a step's own store is made, and through each turn, holds after the step
+
+module _ (t : Tables) (step : Step) (z : Sized t) (Q : ℕ → Tables → Type 0)
+    (turn :
+    (n : ℕ) (o : Outcome) → n < 16 → Sized (o .tables) → Q n (o .tables)
+    → Q (suc n) (turnOf (lookOf step .trip) n o .tables))
+    (own : isAccepted (headOf t step .answer) ≡ true → Q 0 (headOf t step .tables)) where
+  abbrev Both : ℕ → Tables → Type 0
+  Both n u = Sized u × Q n u
+
+  both-turn :
+      (n : ℕ) → n < 16 → Both n (turnedOf t step n .tables)
+      → Both (suc n) (turnOf (lookOf step .trip) n (turnedOf t step n) .tables)
+  both-turn n l (y, k) = (
+    sized-turn (lookOf step .trip) n (turnedOf t step n) y,
+    turn n (turnedOf t step n) l y k,
+  )
+
+  pub sized-accepted-has : isAccepted (stepOf t step .answer) ≡ true → Q (turnsOf t step) (stepOf t step .tables)
+  sized-accepted-has e = accepted-has t step Both both-turn (λ a. (sized-head t step z, own a)) e .1
+
+  pub sized-step-has : (P : Tables → Type 0) → P t → ((u : Tables) → Q (turnsOf t step) u → P u) → P (stepOf t step .tables)
+  sized-step-has P before after =
+      step-has t step Both both-turn (λ a. (sized-head t step z, own a)) P before (λ u k. after u (k .1))

@@ -1,6 +1,5 @@
 -- A promise stands until home lets the station off: no step but home's own takes a prepared visit or its mark. Assumes nothing.
-use Prim.Native.Nat.{ℕ, zero, suc, _%_, _≤_, _<_}
-use native.Mathlib.Omega.{arith}
+use Prim.Native.Nat.{ℕ, _%_, _<_}
 use mathlib.Core.Path.{_≡_, refl, sym, _∙_, subst, subst₂}
 use mathlib.Core.Logic.{⊎-elim}
 use mathlib.Core.Bool.{Bool, true, false, cond, _&&_, _||_, true≢false}
@@ -12,7 +11,6 @@ use Rattle.rules.specs.declared.answers.Trip.{Trip}
 use Rattle.rules.specs.declared.answers.Check.{Check}
 use Rattle.rules.specs.LoopsLaws.{either, or-left, or-right, not-false, cond-keeps}
 use Rattle.rules.specs.Tables.{start, objectAt, passageAt, visitAt, messageAt, objectSite, slotOf}
-use Rattle.rules.specs.Ranges.{inRange}
 use Rattle.rules.specs.Answers.{isAccepted, firstOf, settleOf}
 use Rattle.rules.specs.AnswersLaws.{Fine}
 use Rattle.rules.specs.Parts.{isFree, abortedPassage, whereThere, toldOf, toldVisit, askedVisit}
@@ -20,10 +18,9 @@ use Rattle.rules.specs.Stations.{crashChecks, crashOf, losesHome, crashedSlot}
 use Rattle.rules.specs.Passages.{beginOf, abortOf}
 use Rattle.rules.specs.Rounds.{openOf, terminateOf, prepareOf, closeOf}
 use Rattle.rules.specs.Calls.{deliverCallOf, deliverPhaseOneOf, deliverPhaseTwoOf, deliverBodyOf}
-use Rattle.rules.specs.Machine.{lookOf, placesOf, seenOf, decideOf, stored, headOf, slotPlaces, sweepTurn, crashTurn, turnOf, turnsUpTo, turnCount, stepInRangeOf, stepOf}
-use Rattle.rules.specs.StoredLaws.{Sized, Placed, sized-after-stored, passage-after-stored, passage-after-stored-other}
-use Rattle.rules.specs.RangesLaws.{placed-places, placed-slots}
-use Rattle.rules.specs.RangesKept.{turn-count-most}
+use Rattle.rules.specs.Machine.{lookOf, placesOf, seenOf, decideOf, stored, headOf, turnOf, stepOf, tripSite, tripPlaces, turnSeen}
+use Rattle.rules.specs.StoredLaws.{Sized, Placed, passage-after-stored, passage-after-stored-other, turn-stored}
+use Rattle.rules.specs.RangesLaws.{placed-places, placed-trip}
 use Rattle.rules.specs.RefusedLaws.{refused-leaves}
 use Rattle.rules.specs.Record.{flatOf, isStep}
 use Rattle.rules.specs.Runs.{runOf}
@@ -32,7 +29,7 @@ use Rattle.runs.specs.Types.{Kind, Passage, Visit, Asked, Told, Body, Me
 use Rattle.runs.specs.Put.{same-or-other}
 use Rattle.runs.specs.LifeFits.{free-says}
 use Rattle.runs.specs.Steps.{run-on}
-use Rattle.runs.specs.Sizes.{sized-run, sized-head}
+use Rattle.runs.specs.Sizes.{sized-run, sized-step-has}
 use Rattle.runs.specs.RunLaws.{free-no-visit}
 use Rattle.runs.specs.Rests.{isPrepare, carriesCommit}
 use Rattle.runs.specs.Promised.{Promised, isWord, stored-has, prepared-not-swept, word-here}
@@ -157,6 +154,27 @@ decided-stands :
     → Stands (decideOf step place rest (seenOf t (placesOf t (lookOf step))) .left .visit)
 decided-stands t step place rest = marked-stands t step place rest (deedOf step .marks)
 
+-- ---- what one slot of a sweep or of a crash leaves of its visit and its passage
+
+-- a crash is not that of the passage's home
+abbrev Stays : Trip → Passage → Type 0
+Stays Trip.Nowhere x = Unit {0}
+Stays (Trip.Sweep site) x = Unit {0}
+Stays (Trip.Crash site) x = losesHome site x ≡ false
+
+turned-stands : (trip : Trip) (n : ℕ) (seen : Seen) → Stays trip (seen .passage) → Stands (seen .visit) → Stands (turnSeen trip n seen .visit)
+unfolding crashedSlot
+turned-stands Trip.Nowhere n seen w k = k
+turned-stands (Trip.Sweep site) n seen w k = rw (prepared-not-swept site n seen (k .1)) k
+turned-stands (Trip.Crash site) n seen w k = cond-keeps Stands (seen .visit .there) _ (seen .visit) (rw (w, k .1) (k .0, refl)) k
+
+turned-stays : (trip : Trip) (n : ℕ) (seen : Seen) → Stays trip (seen .passage) → Stays trip (turnSeen trip n seen .passage)
+unfolding crashedSlot
+turned-stays Trip.Nowhere n seen w = tt
+turned-stays (Trip.Sweep site) n seen w = tt
+turned-stays (Trip.Crash site) n seen w =
+    subst (λ (c : Bool). losesHome site (cond c (abortedPassage (seen .passage)) (seen .passage)) ≡ false) (sym w) w
+
 -- ---- steps, for the visit of one slot at one site
 
 -- what holds of the passage that a store leaves in its own slot, and of every other, holds of all
@@ -172,17 +190,12 @@ passage-has P t at left z h p own other =
     (same-or-other p (at .slot))
 
 module _ (s p : ℕ) (slot : p < 16) where
-  -- a crash at the visit's own site is not the crash of its passage's home
+  -- what is kept on a step's way: the visit, and that a crash at its own site is not that of its passage's home
   abbrev Away : Trip → Passage → Type 0
-  Away Trip.Nowhere x = Unit {0}
-  Away (Trip.Sweep site) x = Unit {0}
-  Away (Trip.Crash site) x = s ≡ site % 8 → losesHome site x ≡ false
+  Away trip x = s ≡ tripSite trip % 8 → Stays trip x
 
-  -- what is kept on a step's way
-  record OnWay (trip : Trip) (t : Tables) : Type 0 where
-    sized : Sized t
-    stands : Stands (visitAt t s p)
-    away : Away trip (passageAt t p)
+  abbrev OnWay : Trip → Tables → Type 0
+  OnWay trip u = Stands (visitAt u s p) × Away trip (passageAt u p)
 
   head-stands :
       (t : Tables) (step : Step) → Sized t → Promised t s p → isFree (passageAt t p .status) ≡ false → letsOff t s p step ≡ false
@@ -228,7 +241,7 @@ module _ (s p : ℕ) (slot : p < 16) where
 
   goes-away :
       (t : Tables) (step : Step) → Goes step → Sized t → letsOff t s p step ≡ false → Away (lookOf step .trip) (passageAt (headOf t step .tables) p)
-  goes-away t _ (Goes.Sweeps site) z f = tt
+  goes-away t _ (Goes.Sweeps site) z f = λ e. tt
   goes-away t _ (Goes.Crashes site) z f =
       crash-away
       t
@@ -236,82 +249,40 @@ module _ (s p : ℕ) (slot : p < 16) where
       z
       (λ x. s ≡ site % 8 → losesHome site x ≡ false)
       (λ e. rw (eq-eqb (site % 8) s (sym e)) at f)
-  goes-away t _ (Goes.Nowhere step none) z f = rw none tt
+  goes-away t _ (Goes.Nowhere step none) z f = rw none (λ e. tt)
 
   head-away :
       (t : Tables) (step : Step) → Sized t → letsOff t s p step ≡ false → Away (lookOf step .trip) (passageAt (headOf t step .tables) p)
   head-away t step = goes-away t step (deedOf step .goes)
 
-  -- one slot of a sweep, and one of a crash
-  turn-on-way : (trip : Trip) (n : ℕ) (o : Outcome) → n < 16 → OnWay trip (o .tables) → OnWay trip (turnOf trip n o .tables)
-  unfolding sweepTurn crashTurn crashedSlot
-  turn-on-way Trip.Nowhere n o l k = k
-  turn-on-way (Trip.Sweep site) n o l k =
-      record {
-        sized = sized-after-stored (o .tables) (slotPlaces site n) _ (k .sized);
-        stands =
-            stored-has Stands (o .tables) (slotPlaces site n) _ (k .sized) (placed-slots site n l) s p slot
-            (λ a b.
-            let y : Stands (visitAt (o .tables) (site % 8) n) = subst₂ (λ (x w : ℕ). Stands (visitAt (o .tables) x w)) a b (k .stands) in
-            rw (prepared-not-swept site n (seenOf (o .tables) (slotPlaces site n)) (y .1)) y)
-            (k .stands);
-        away = tt;
-      }
-  turn-on-way (Trip.Crash site) n o l k =
-      record {
-        sized = sized-after-stored (o .tables) (slotPlaces site n) _ (k .sized);
-        stands =
-            stored-has Stands (o .tables) (slotPlaces site n) _ (k .sized) (placed-slots site n l) s p slot
-            (λ a b.
-            let y : Stands (visitAt (o .tables) (site % 8) n) = subst₂ (λ (x w : ℕ). Stands (visitAt (o .tables) x w)) a b (k .stands) in
-            let w : losesHome site (passageAt (o .tables) n) ≡ false = subst (λ (x : ℕ). losesHome site (passageAt (o .tables) x) ≡ false) b (k .away a) in
-            cond-keeps
-            Stands
-            (visitAt (o .tables) (site % 8) n .there)
-            _
-            (visitAt (o .tables) (site % 8) n)
-            (rw (w, y .1) y)
-            y)
-            (k .stands);
-        away =
-            λ a.
-            passage-has
-            (λ x. losesHome site x ≡ false)
-            (o .tables)
-            (slotPlaces site n)
-            _
-            (k .sized)
-            (placed-slots site n l)
-            p
-            (λ b.
-            let w : losesHome site (passageAt (o .tables) n) ≡ false = subst (λ (x : ℕ). losesHome site (passageAt (o .tables) x) ≡ false) b (k .away a) in
-            subst (λ (c : Bool). losesHome site (cond c (abortedPassage (passageAt (o .tables) n)) (passageAt (o .tables) n)) ≡ false) (sym w) w)
-            (k .away a);
-      }
-
-  turns-on-way : (trip : Trip) (o : Outcome) (n : ℕ) → n ≤ 16 → OnWay trip (o .tables) → OnWay trip (turnsUpTo trip o n .tables)
-  unfolding turnsUpTo
-  turns-on-way trip o zero l k = k
-  turns-on-way trip o (suc n) l k = turn-on-way trip n (turnsUpTo trip o n) l (turns-on-way trip o n (omega arith) k)
+  turn-on-way :
+      (trip : Trip) (n : ℕ) (o : Outcome) → n < 16 → Sized (o .tables) → OnWay trip (o .tables) → OnWay trip (turnOf trip n o .tables)
+  turn-on-way trip n o l z (k, w) =
+      let at : Places = tripPlaces trip n in
+      let here : s ≡ at .site → p ≡ at .slot → Stays trip (passageAt (o .tables) n) =
+      λ a b. subst (λ (x : ℕ). Stays trip (passageAt (o .tables) x)) b (w a) in
+      rw (turn-stored trip n o) (
+        stored-has Stands (o .tables) at _ z (placed-trip trip n l) s p slot
+            (λ a b. turned-stands trip n (seenOf (o .tables) at) (here a b) (subst₂ (λ (x y : ℕ). Stands (visitAt (o .tables) x y)) a b k))
+            k,
+        λ a. passage-has (Stays trip) (o .tables) at _ z (placed-trip trip n l) p (λ b. turned-stays trip n (seenOf (o .tables) at) (here a b)) (w a),
+      )
 
   -- in any tables: the promise to a passage in use stands after every step that does not let the station off
   pub promise-stands :
       (t : Tables) (step : Step) → Sized t → Promised t s p → isFree (passageAt t p .status) ≡ false → letsOff t s p step ≡ false
       → Promised (stepOf t step .tables) s p
-  unfolding stepOf stepInRangeOf
   promise-stands t step z k u f =
-      ⊎-elim
-      (λ q.
-      let y =
-      turns-on-way
-      (lookOf step .trip)
-      (headOf t step)
-      (turnCount (lookOf step .trip) (headOf t step .answer))
-      (turn-count-most (lookOf step .trip) _)
-      (record { sized = sized-head t step z; stands = head-stands t step z k u f; away = head-away t step z f }) in
-      rw q (record { there = y .stands .0; prepared = y .stands .1 }))
-      (λ q. rw q k)
-      (either (inRange t))
+      sized-step-has
+      t
+      step
+      z
+      (λ n x. OnWay (lookOf step .trip) x)
+      (turn-on-way (lookOf step .trip))
+      (λ a. (head-stands t step z k u f, head-away t step z f))
+      (λ x. Promised x s p)
+      k
+      (λ x y. record { there = y .0 .0; prepared = y .0 .1 })
 
 -- ---- runs
 

@@ -1,4 +1,4 @@
--- How an invariant over runs is shown: by every accepted step's own store, and by each slot of a sweep or a crash.
+-- How a law of a step is shown, and an invariant over runs: by every accepted step's own store, and by each slot of a sweep or a crash.
 -- A ghost may be carried along the run; it is no part of the machine. Assumes nothing.
 use Prim.Native.Nat.{ℕ, zero, suc, _<_, _≤_}
 use native.Mathlib.Omega.{arith}
@@ -48,17 +48,51 @@ module _ {G : Type 0} (head : Tables → Step → G → G) (turn : Trip → ℕ 
   ghostRun t [] g = g
   ghostRun t (s ∷ ss) g = ghostRun (stepOf t s .tables) ss (ghostStep t s g)
 
+-- ---- a step is its own store and then its turns; or it is refused, and nothing
+
+-- what a step has come to after its own store and n turns
+abbrev pub turnedOf : Tables → Step → ℕ → Outcome
+turnedOf t step n = turnsUpTo (lookOf step .trip) (headOf t step) n
+
+-- how many turns it makes
+abbrev pub turnsOf : Tables → Step → ℕ
+turnsOf t step = turnCount (lookOf step .trip) (headOf t step .answer)
+
+pub accepted-turned : (t : Tables) (step : Step) → isAccepted (stepOf t step .answer) ≡ true → stepOf t step ≡ turnedOf t step (turnsOf t step)
+unfolding stepOf stepInRangeOf
+accepted-turned t step e =
+    ⊎-elim (λ q. rw q) (λ q. absurd (false≢true (rw q at e))) (either (inRange t))
+
 -- an accepted step's own store was accepted
 pub head-accepted :
     (t : Tables) (step : Step) → isAccepted (stepOf t step .answer) ≡ true → isAccepted (headOf t step .answer) ≡ true
-unfolding stepOf stepInRangeOf
 head-accepted t step e =
-    ⊎-elim
-    (λ q.
-    sym (turns-keep (lookOf step .trip) (headOf t step) (turnCount (lookOf step .trip) (headOf t step .answer)))
-    ∙ (rw q at e))
-    (λ q. absurd (false≢true (rw q at e)))
-    (either (inRange t))
+    sym (turns-keep (lookOf step .trip) (headOf t step) (turnsOf t step)) ∙ (rw (accepted-turned t step e) at e)
+
+-- what holds once the step's own store is made, and through each turn, holds after the step
+module _ (t : Tables) (step : Step) (Q : ℕ → Tables → Type 0)
+    (turn :
+    (n : ℕ) → n < 16 → Q n (turnedOf t step n .tables)
+    → Q (suc n) (turnOf (lookOf step .trip) n (turnedOf t step n) .tables))
+    (own : isAccepted (headOf t step .answer) ≡ true → Q 0 (headOf t step .tables)) where
+  turned-has : (n : ℕ) → n ≤ 16 → isAccepted (headOf t step .answer) ≡ true → Q n (turnedOf t step n .tables)
+  unfolding turnsUpTo
+  turned-has zero l e = own e
+  turned-has (suc n) l e = turn n l (turned-has n (omega arith) e)
+
+  pub accepted-has : isAccepted (stepOf t step .answer) ≡ true → Q (turnsOf t step) (stepOf t step .tables)
+  accepted-has e =
+      rw
+      (accepted-turned t step e)
+      (turned-has (turnsOf t step) (turn-count-most (lookOf step .trip) (headOf t step .answer)) (head-accepted t step e))
+
+  -- whatever the step, accepted or not: what held before it holds after it
+  pub step-has : (P : Tables → Type 0) → P t → ((u : Tables) → Q (turnsOf t step) u → P u) → P (stepOf t step .tables)
+  step-has P before after =
+      ⊎-elim
+      (λ e. after (stepOf t step .tables) (accepted-has e))
+      (λ e. rw (refused-leaves t step e) before)
+      (either (isAccepted (stepOf t step .answer)))
 
 -- ---- an invariant that every accepted store keeps is kept by every step and in every run
 
@@ -69,44 +103,20 @@ module _ {G : Type 0} (head : Tables → Step → G → G) (turn : Trip → ℕ 
     (turn-keeps :
     (trip : Trip) (slot : ℕ) (o : Outcome) (g : G) → slot < 16 → Good (o .tables) g
     → Good (turnOf trip slot o .tables) (turn trip slot (o .tables) g)) where
-  turns-good :
-      (trip : Trip) (o : Outcome) (n : ℕ) (g : G) → n ≤ 16 → Good (o .tables) g
-      → Good (turnsUpTo trip o n .tables) (ghostTurns head turn trip o n g)
-  unfolding turnsUpTo ghostTurns
-  turns-good trip o zero g i k = k
-  turns-good trip o (suc n) g i k =
-      turn-keeps trip n (turnsUpTo trip o n) (ghostTurns head turn trip o n g) i (turns-good trip o n g (omega arith) k)
-
-  accepted-good :
-      (t : Tables) (step : Step) (g : G) → Good t g → isAccepted (stepOf t step .answer) ≡ true
-      → Good
-      (stepOf t step .tables)
-      (ghostTurns head turn (lookOf step .trip) (headOf t step) (turnCount (lookOf step .trip) (headOf t step .answer)) (head t step g))
-  unfolding stepOf stepInRangeOf
-  accepted-good t step g k e =
-      ⊎-elim
-      (λ q.
-      rw
-      q
-      (turns-good
-      (lookOf step .trip)
-      (headOf t step)
-      (turnCount (lookOf step .trip) (headOf t step .answer))
-      (head t step g)
-      (turn-count-most (lookOf step .trip) _)
-      (head-keeps
-      t
-      step
-      g
-      k
-      (head-accepted t step e))))
-      (λ q. absurd (false≢true (rw q at e)))
-      (either (inRange t))
-
   pub step-keeps : (t : Tables) (step : Step) (g : G) → Good t g → Good (stepOf t step .tables) (ghostStep head turn t step g)
+  unfolding ghostTurns
   step-keeps t step g k =
       ⊎-elim
-      (λ e. rw (ghost-accepted head turn t step g e) (accepted-good t step g k e))
+      (λ e.
+      rw
+      (ghost-accepted head turn t step g e)
+      (accepted-has
+      t
+      step
+      (λ n u. Good u (ghostTurns head turn (lookOf step .trip) (headOf t step) n (head t step g)))
+      (λ n l x. turn-keeps (lookOf step .trip) n (turnedOf t step n) _ l x)
+      (head-keeps t step g k)
+      e))
       (λ e. rw (ghost-refused head turn t step g e, refused-leaves t step e) k)
       (either (isAccepted (stepOf t step .answer)))
 

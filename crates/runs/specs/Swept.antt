@@ -1,27 +1,25 @@
 -- A sweep goes through the slots: an unprepared visit whose release time the clock has reached is gone afterwards. Assumes nothing.
-use Prim.Native.Nat.{ℕ, zero, suc, _%_, _<_, _≤_}
+use Prim.Native.Nat.{ℕ, suc, _%_, _<_, _≤_}
 use native.Mathlib.Omega.{arith}
 use native.Mathlib.Nat.{ne-of-lt}
 use mathlib.Core.Path.{_≡_, refl, sym, ap, _∙_, subst}
 use mathlib.Core.Logic.{_≢_, ⊎-elim, _⊎_, inl, inr}
-use mathlib.Core.Bool.{Bool, true, false, cond, false≢true}
+use mathlib.Core.Bool.{true, false}
 use lib.Dec.{leb}
 use borrow.Author.Tests.{leb-false}
 use Rattle.rules.specs.LoopsLaws.{either, cond-keeps}
 use Rattle.rules.specs.Tables.{siteAt, visitAt}
 use Rattle.rules.specs.Answers.{isAccepted}
-use Rattle.rules.specs.Ranges.{inRange}
-use Rattle.rules.specs.StoredLaws.{Sized, sized-after-stored, visit-place-same, site-after-stored, visit-after-stored, visit-after-stored-other}
-use Rattle.rules.specs.RangesLaws.{placed-slots}
-use Rattle.rules.specs.RangesKept.{turn-count-most}
+use Rattle.rules.specs.StoredLaws.{Sized, turn-stored, visit-place-same, site-after-stored, visit-after-stored, visit-after-stored-other}
+use Rattle.rules.specs.RangesLaws.{placed-trip}
 use Rattle.rules.specs.Stations.{isSwept, sweptSlot}
-use Rattle.rules.specs.Machine.{seenOf, stored, headOf, slotPlaces, sweepTurn, turnsUpTo, turnCount, stepInRangeOf, stepOf}
+use Rattle.rules.specs.Machine.{seenOf, stored, headOf, tripPlaces, turnOf, stepOf}
 use Rattle.rules.specs.declared.answers.Trip.{Trip}
-use Rattle.runs.specs.Types.{Site, Visit, Tables, Step, Outcome, Seen}
+use Rattle.runs.specs.Types.{Site, Visit, Tables, Step, Places, Outcome, Seen}
 use Rattle.runs.specs.Put.{same-or-other}
-use Rattle.runs.specs.Sizes.{sized-head}
-use Rattle.runs.specs.Clocks.{swept-site}
-use Rattle.runs.specs.Steps.{head-accepted}
+use Rattle.runs.specs.Sizes.{sized-accepted-has}
+use Rattle.runs.specs.Clocks.{turned-site}
+use Rattle.runs.specs.Steps.{turnsOf, head-accepted}
 
 -- what must hold of a visit for a sweep at this clock to take it
 pub record Ripe (clock : ℕ) (v : Visit) : Type 0 where
@@ -59,166 +57,117 @@ module _ (site p : ℕ) (place : site < 8) (slot : p < 16) where
   -- one turn keeps the station's clock, and the slot's visit but in its own turn
   turn-clock :
       (n : ℕ) (o : Outcome) → n < 16 → Sized (o .tables)
-      → siteAt (sweepTurn site n o .tables) site .clock ≡ siteAt (o .tables) site .clock
-  unfolding sweepTurn
+      → siteAt (turnOf (Trip.Sweep site) n o .tables) site .clock ≡ siteAt (o .tables) site .clock
   turn-clock n o i z =
-      subst
-      (λ (x : ℕ).
-      siteAt (stored (o .tables) (slotPlaces site n) (sweptSlot site n (seenOf (o .tables) (slotPlaces site n)))) x .clock
-      ≡ siteAt (o .tables) x .clock)
+      let at : Places = tripPlaces (Trip.Sweep site) n in
+      rw
+      (turn-stored (Trip.Sweep site) n o)
+      (subst
+      (λ (x : ℕ). siteAt (stored (o .tables) at (sweptSlot site n (seenOf (o .tables) at))) x .clock ≡ siteAt (o .tables) x .clock)
       same-place
       (ap
       (λ (x : Site). x .clock)
-      (site-after-stored (o .tables) (slotPlaces site n) _ z (placed-slots site n i)
-      ∙ swept-site site n (seenOf (o .tables) (slotPlaces site n))))
+      (site-after-stored (o .tables) at _ z (placed-trip (Trip.Sweep site) n i)
+      ∙ turned-site (Trip.Sweep site) n (seenOf (o .tables) at))))
 
   turn-other :
-      (n : ℕ) (o : Outcome) → n < 16 → n ≢ p → visitAt (sweepTurn site n o .tables) site p ≡ visitAt (o .tables) site p
-  unfolding sweepTurn
+      (n : ℕ) (o : Outcome) → n < 16 → n ≢ p → visitAt (turnOf (Trip.Sweep site) n o .tables) site p ≡ visitAt (o .tables) site p
   turn-other n o i m =
-      visit-after-stored-other
+      rw
+      (turn-stored (Trip.Sweep site) n o)
+      (visit-after-stored-other
       (o .tables)
-      (slotPlaces site n)
+      (tripPlaces (Trip.Sweep site) n)
       _
       site
       p
-      (λ e. m (sym (visit-place-same site p (site % 8) n slot i e .1)))
+      (λ e. m (sym (visit-place-same site p (site % 8) n slot i e .1))))
 
   turn-own :
       (o : Outcome) → Sized (o .tables) → Ripe (siteAt (o .tables) site .clock) (visitAt (o .tables) site p)
-      → visitAt (sweepTurn site p o .tables) site p .there ≡ false
-  unfolding sweepTurn
+      → visitAt (turnOf (Trip.Sweep site) p o .tables) site p .there ≡ false
   turn-own o z r =
-      subst
-      (λ (x : ℕ).
-      visitAt (stored (o .tables) (slotPlaces site p) (sweptSlot site p (seenOf (o .tables) (slotPlaces site p)))) x p .there ≡ false)
+      let at : Places = tripPlaces (Trip.Sweep site) p in
+      rw
+      (turn-stored (Trip.Sweep site) p o)
+      (subst
+      (λ (x : ℕ). visitAt (stored (o .tables) at (sweptSlot site p (seenOf (o .tables) at))) x p .there ≡ false)
       same-place
-      (ap
-      (λ (v : Visit). v .there)
-      (visit-after-stored (o .tables) (slotPlaces site p) _ z (placed-slots site p slot))
+      (ap (λ (v : Visit). v .there) (visit-after-stored (o .tables) at _ z (placed-trip (Trip.Sweep site) p slot))
       ∙ ripe-goes
       site
       p
-      (seenOf (o .tables) (slotPlaces site p))
-      (subst (λ (x : ℕ). Ripe (siteAt (o .tables) x .clock) (visitAt (o .tables) x p)) (sym same-place) r))
+      (seenOf (o .tables) at)
+      (subst (λ (x : ℕ). Ripe (siteAt (o .tables) x .clock) (visitAt (o .tables) x p)) (sym same-place) r)))
 
-  -- after n turns: the lengths and the clock are as before them; the visit is gone once its turn has been, and as before until then
-  pub record After (o : Outcome) (n : ℕ) : Type 0 where
-    pub sized : Sized (turnsUpTo (Trip.Sweep site) o n .tables)
-    pub clock : siteAt (turnsUpTo (Trip.Sweep site) o n .tables) site .clock ≡ siteAt (o .tables) site .clock
-    pub visit :
-        ((p < n) × (visitAt (turnsUpTo (Trip.Sweep site) o n .tables) site p .there ≡ false))
-        ⊎ ((n ≤ p) × (visitAt (turnsUpTo (Trip.Sweep site) o n .tables) site p ≡ visitAt (o .tables) site p))
-
-  sized-turned : (n : ℕ) (o : Outcome) → Sized (o .tables) → Sized (sweepTurn site n o .tables)
-  unfolding sweepTurn
-  sized-turned n o z = sized-after-stored (o .tables) (slotPlaces site n) _ z
+  -- n turns after t: the clock is as in t; the visit is gone once its turn has been, and as in t until then
+  record After (t : Tables) (n : ℕ) (u : Tables) : Type 0 where
+    clock : siteAt u site .clock ≡ siteAt t site .clock
+    visit : ((p < n) × (visitAt u site p .there ≡ false)) ⊎ ((n ≤ p) × (visitAt u site p ≡ visitAt t site p))
 
   -- one turn more
-  turned :
-      (o : Outcome) (n : ℕ) → n < 16 → Ripe (siteAt (o .tables) site .clock) (visitAt (o .tables) site p) → After o n
-      → After o (suc n)
-  unfolding turnsUpTo
-  turned o n i r k =
+  turn-after :
+      (t : Tables) → Ripe (siteAt t site .clock) (visitAt t site p) → (n : ℕ) (o : Outcome) → n < 16 → Sized (o .tables)
+      → After t n (o .tables)
+      → After t (suc n) (turnOf (Trip.Sweep site) n o .tables)
+  turn-after t r n o i z k =
       record {
-        sized = sized-turned n (turnsUpTo (Trip.Sweep site) o n) (k .sized);
-        clock = turn-clock n (turnsUpTo (Trip.Sweep site) o n) i (k .sized) ∙ k .clock;
+        clock = turn-clock n o i z ∙ k .clock;
         visit = ⊎-elim (λ g. inl (gone g)) (λ g. still g (same-or-other n p)) (k .visit);
       }
     where
-      u : Outcome
-      u = turnsUpTo (Trip.Sweep site) o n
-
       gone :
-          (p < n) × (visitAt (turnsUpTo (Trip.Sweep site) o n .tables) site p .there ≡ false)
-          → (p < suc n) × (visitAt (sweepTurn site n (turnsUpTo (Trip.Sweep site) o n) .tables) site p .there ≡ false)
-      gone (j, e) = (
-        omega arith,
-        ap (λ (v : Visit). v .there) (turn-other n (turnsUpTo (Trip.Sweep site) o n) i (λ q. absurd (ne-of-lt j (sym q)))) ∙ e,
-      )
+          (p < n) × (visitAt (o .tables) site p .there ≡ false)
+          → (p < suc n) × (visitAt (turnOf (Trip.Sweep site) n o .tables) site p .there ≡ false)
+      gone (j, e) = (omega arith, ap (λ (v : Visit). v .there) (turn-other n o i (λ q. absurd (ne-of-lt j (sym q)))) ∙ e)
 
       still :
-          (n ≤ p) × (visitAt (turnsUpTo (Trip.Sweep site) o n .tables) site p ≡ visitAt (o .tables) site p)
-          → (n ≡ p) ⊎ (n ≢ p)
-          → ((p < suc n) × (visitAt (sweepTurn site n (turnsUpTo (Trip.Sweep site) o n) .tables) site p .there ≡ false))
-          ⊎ ((suc n ≤ p) × (visitAt (sweepTurn site n (turnsUpTo (Trip.Sweep site) o n) .tables) site p ≡ visitAt (o .tables) site p))
+          (n ≤ p) × (visitAt (o .tables) site p ≡ visitAt t site p) → (n ≡ p) ⊎ (n ≢ p)
+          → ((p < suc n) × (visitAt (turnOf (Trip.Sweep site) n o .tables) site p .there ≡ false))
+          ⊎ ((suc n ≤ p) × (visitAt (turnOf (Trip.Sweep site) n o .tables) site p ≡ visitAt t site p))
       still (j, e) (inl q) =
           inl (
             omega arith,
             subst
-                (λ (x : ℕ). visitAt (sweepTurn site x (turnsUpTo (Trip.Sweep site) o n) .tables) site p .there ≡ false)
+                (λ (x : ℕ). visitAt (turnOf (Trip.Sweep site) x o .tables) site p .there ≡ false)
                 (sym q)
-                (turn-own (turnsUpTo (Trip.Sweep site) o n) (k .sized) (rw (k .clock, e) r)),
+                (turn-own o z (rw (k .clock, e) r)),
           )
-      still (j, e) (inr q) =
-          inr (omega (arith, q), turn-other n (turnsUpTo (Trip.Sweep site) o n) i q ∙ e)
-
-  after :
-      (o : Outcome) → Sized (o .tables) → Ripe (siteAt (o .tables) site .clock) (visitAt (o .tables) site p)
-      → (n : ℕ) → n ≤ 16 → After o n
-  unfolding turnsUpTo
-  after o z r zero i = record { sized = z; clock = refl; visit = inr (omega arith, refl) }
-  after o z r (suc n) i = turned o n i r (after o z r n (omega arith))
-
-  -- the turns leave the station's clock
-  turns-clock :
-      (o : Outcome) → Sized (o .tables) → (n : ℕ) → n ≤ 16
-      → Sized (turnsUpTo (Trip.Sweep site) o n .tables)
-      × (siteAt (turnsUpTo (Trip.Sweep site) o n .tables) site .clock ≡ siteAt (o .tables) site .clock)
-  unfolding turnsUpTo
-  turns-clock o z zero i = (z, refl)
-  turns-clock o z (suc n) i =
-      let k = turns-clock o z n (omega arith) in (
-        sized-turned n (turnsUpTo (Trip.Sweep site) o n) (k .0),
-        turn-clock n (turnsUpTo (Trip.Sweep site) o n) i (k .0) ∙ k .1,
-      )
+      still (j, e) (inr q) = inr (omega (arith, q), turn-other n o i q ∙ e)
 
   -- so an accepted sweep leaves the clock that its own store has moved
   pub swept-clock :
       (t : Tables) → Sized t → isAccepted (stepOf t (Step.Sweep site) .answer) ≡ true
       → siteAt (stepOf t (Step.Sweep site) .tables) site .clock ≡ siteAt (headOf t (Step.Sweep site) .tables) site .clock
-  unfolding stepOf stepInRangeOf
   swept-clock t z e =
-      ⊎-elim
-      (λ q.
-      rw
-      q
-      (turns-clock
-      (headOf t (Step.Sweep site))
-      (sized-head t (Step.Sweep site) z)
-      (turnCount (Trip.Sweep site) (headOf t (Step.Sweep site) .answer))
-      (turn-count-most (Trip.Sweep site) (headOf t (Step.Sweep site) .answer))
-      .1))
-      (λ q. absurd (false≢true (rw q at e)))
-      (either (inRange t))
+      sized-accepted-has
+      t
+      (Step.Sweep site)
+      z
+      (λ n u. siteAt u site .clock ≡ siteAt (headOf t (Step.Sweep site) .tables) site .clock)
+      (λ n o i y k. turn-clock n o i y ∙ k)
+      (λ a. refl)
+      e
 
   -- an accepted sweep leaves no visit of the slot at the station, if the visit was ripe once the clock had moved
   pub swept-away :
       (t : Tables) → Sized t → isAccepted (stepOf t (Step.Sweep site) .answer) ≡ true
       → Ripe (siteAt (headOf t (Step.Sweep site) .tables) site .clock) (visitAt (headOf t (Step.Sweep site) .tables) site p)
       → visitAt (stepOf t (Step.Sweep site) .tables) site p .there ≡ false
-  unfolding stepOf stepInRangeOf
   swept-away t z e r =
-      ⊎-elim
-      (λ q. rw q (through (head-accepted t (Step.Sweep site) e)))
-      (λ q. absurd (false≢true (rw q at e)))
-      (either (inRange t))
+      ⊎-elim (λ g. g .1) (λ g. let i : 16 ≤ p = rw (head-accepted t (Step.Sweep site) e) at (g .0) in absurd (omega arith)) (through .visit)
     where
-      sixteen :
-          After (headOf t (Step.Sweep site)) 16
-          → visitAt (turnsUpTo (Trip.Sweep site) (headOf t (Step.Sweep site)) 16 .tables) site p .there ≡ false
-      sixteen k = ⊎-elim (λ g. g .1) (λ g. let i : 16 ≤ p = g .0 in absurd (omega arith)) (k .visit)
-
       through :
-          isAccepted (headOf t (Step.Sweep site) .answer) ≡ true
-          → visitAt
-          (turnsUpTo (Trip.Sweep site) (headOf t (Step.Sweep site)) (turnCount (Trip.Sweep site) (headOf t (Step.Sweep site) .answer)) .tables)
-          site
-          p
-          .there
-          ≡ false
-      through a =
-          subst
-          (λ (b : Bool). visitAt (turnsUpTo (Trip.Sweep site) (headOf t (Step.Sweep site)) (cond b 16 0) .tables) site p .there ≡ false)
-          (sym a)
-          (sixteen (after (headOf t (Step.Sweep site)) (sized-head t (Step.Sweep site) z) r 16 (omega arith)))
+          After
+          (headOf t (Step.Sweep site) .tables)
+          (turnsOf t (Step.Sweep site))
+          (stepOf t (Step.Sweep site) .tables)
+      through =
+          sized-accepted-has
+          t
+          (Step.Sweep site)
+          z
+          (After (headOf t (Step.Sweep site) .tables))
+          (turn-after (headOf t (Step.Sweep site) .tables) r)
+          (λ a. record { clock = refl; visit = inr (omega arith, refl) })
+          e

@@ -5,11 +5,12 @@ use mathlib.Core.Path.{refl}
 use mathlib.Core.Logic.{inl}
 use mathlib.Core.Bool.{true, not, _&&_, _||_}
 use lib.Dec.{eqb}
+use Rattle.rules.specs.declared.answers.Trip.{Trip}
 use Rattle.rules.specs.LoopsLaws.{cond-keeps}
 use Rattle.rules.specs.Tables.{siteAt, passageAt, visitAt}
 use Rattle.rules.specs.Parts.{isActive}
 use Rattle.rules.specs.Stations.{leftSite, isSwept, losesHome, sweptSlot, crashedSlot}
-use Rattle.rules.specs.Machine.{seenOf, slotPlaces}
+use Rattle.rules.specs.Machine.{seenOf, slotPlaces, tripPlaces, turnSeen}
 use Rattle.runs.specs.Types.{Site, Tables, Places}
 use Rattle.runs.specs.View.{viewOf}
 use Rattle.runs.specs.WatchKept.{VisitKeeps}
@@ -36,7 +37,7 @@ site-keeps latest t at site i =
     }
 
 -- one slot of a sweep: the visit goes, and an active passage at home is aborted; or all stays
-pub swept-keeps :
+swept-keeps :
     (latest : ℕ) (t : Tables) (site slot : ℕ)
     → Keeps latest t (slotPlaces site slot) (sweptSlot site slot (seenOf t (slotPlaces site slot)))
 unfolding sweptSlot
@@ -65,7 +66,7 @@ swept-keeps latest t site slot =
     (site-keeps latest t (slotPlaces site slot) (siteAt t (site % 8)) (omega arith))
 
 -- one slot of a crash
-pub crashed-keeps :
+crashed-keeps :
     (latest : ℕ) (t : Tables) (site slot : ℕ)
     → Keeps latest t (slotPlaces site slot) (crashedSlot site slot (seenOf t (slotPlaces site slot)))
 unfolding crashedSlot
@@ -93,3 +94,10 @@ crashed-keeps latest t site slot =
             mail = mail-keeps latest (viewOf t slot) 0;
           };
     }
+
+pub turned-keeps :
+    (latest : ℕ) (t : Tables) (trip : Trip) (slot : ℕ)
+    → Keeps latest t (tripPlaces trip slot) (turnSeen trip slot (seenOf t (tripPlaces trip slot)))
+turned-keeps latest t Trip.Nowhere slot = site-keeps latest t (tripPlaces Trip.Nowhere slot) (siteAt t 0) (omega arith)
+turned-keeps latest t (Trip.Sweep site) slot = swept-keeps latest t site slot
+turned-keeps latest t (Trip.Crash site) slot = crashed-keeps latest t site slot

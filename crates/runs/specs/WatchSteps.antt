@@ -15,9 +15,9 @@ use Rattle.rules.specs.Stations.{tickOf, tickDone, sweepOf, sweepDone, crashOf,
 use Rattle.rules.specs.Passages.{beginOf, beginDone, abortOf, abortDone, retireOf, retireDone}
 use Rattle.rules.specs.Rounds.{refreshOf, terminateOf, prepareOf, openOf, openDone, askOf, askDone, closeOf, closeDone, tellOf, tellDone}
 use Rattle.rules.specs.Calls.{invokeOf, invokeDone, dropOf, dropDone}
-use Rattle.rules.specs.Machine.{lookOf, placesOf, seenOf, remains, decideOf, headOf, slotPlaces, sweepTurn, crashTurn, turnOf}
-use Rattle.rules.specs.StoredLaws.{Sized}
-use Rattle.rules.specs.RangesLaws.{placed-places, placed-slots}
+use Rattle.rules.specs.Machine.{lookOf, placesOf, seenOf, remains, decideOf, headOf, tripPlaces, turnOf}
+use Rattle.rules.specs.StoredLaws.{Sized, turn-stored}
+use Rattle.rules.specs.RangesLaws.{placed-places, placed-trip}
 use Rattle.rules.specs.Runs.{runOf}
 use Rattle.runs.specs.Types.{Kind, Status, Passage, Body, Tables, Step, Places, Seen, Decision, Outcome}
 use Rattle.runs.specs.Plain.{repeat-has}
@@ -28,7 +28,7 @@ use Rattle.runs.specs.Ledgers.{placesAt, seenAt}
 use Rattle.runs.specs.Watch.{Known, Watch}
 use Rattle.runs.specs.WatchKept.{Follows, follows-same, watch-unwatched, plain-free, aborted-free}
 use Rattle.runs.specs.WatchStore.{knownHead, knownTurn, Keeps, Guards, keeps-guards, guarded}
-use Rattle.runs.specs.WatchStations.{site-keeps, swept-keeps, crashed-keeps}
+use Rattle.runs.specs.WatchStations.{site-keeps, turned-keeps}
 use Rattle.runs.specs.WatchLife.{begin-guards, abort-keeps, retire-guards}
 use Rattle.runs.specs.WatchRounds.{refresh-keeps, terminate-keeps, prepare-guards, asked-out-keeps, told-out-keeps, close-keeps}
 use Rattle.runs.specs.WatchCalls.{invoked-keeps, delivered-keeps, lost-keeps}
@@ -133,38 +133,23 @@ module _ (latest site p : ℕ) (place : p < 16) where
       (trip : Trip) (slot : ℕ) (o : Outcome) (g : Known) → slot < 16 → Sized (o .tables)
       → Watch latest site g (viewOf (o .tables) p)
       → Watch latest site g (viewOf (turnOf trip slot o .tables) p)
-  unfolding sweepTurn crashTurn
-  watch-turn Trip.Nowhere slot o g i z k = k
-  watch-turn (Trip.Sweep a) slot o g i z k =
-      guarded
+  watch-turn trip slot o g i z k =
+      rw
+      (turn-stored trip slot o)
+      (guarded
       latest
       site
       (o .tables)
-      (slotPlaces a slot)
+      (tripPlaces trip slot)
       g
       (λ q. g)
       _
       z
-      (placed-slots a slot i)
-      (keeps-guards latest site (o .tables) (slotPlaces a slot) g (λ q. g) _ (λ q. follows-same g) (swept-keeps latest (o .tables) a slot))
+      (placed-trip trip slot i)
+      (keeps-guards latest site (o .tables) (tripPlaces trip slot) g (λ q. g) _ (λ q. follows-same g) (turned-keeps latest (o .tables) trip slot))
       p
       place
-      k
-  watch-turn (Trip.Crash a) slot o g i z k =
-      guarded
-      latest
-      site
-      (o .tables)
-      (slotPlaces a slot)
-      g
-      (λ q. g)
-      _
-      z
-      (placed-slots a slot i)
-      (keeps-guards latest site (o .tables) (slotPlaces a slot) g (λ q. g) _ (λ q. follows-same g) (crashed-keeps latest (o .tables) a slot))
-      p
-      place
-      k
+      k)
 
   pub watch-run :
       (t : Tables) (us : List Step) (g : Known) → Sized t → Watch latest site g (viewOf t p)

@@ -15,8 +15,7 @@ use Rattle.rules.specs.declared.answers.Seen.{Seen}
 use Rattle.rules.specs.declared.answers.SiteAt.{SiteAt}
 use Rattle.rules.specs.declared.answers.SlotAt.{SlotAt}
 use Rattle.rules.specs.declared.answers.Trip.{Trip}
-use Rattle.rules.specs.Machine.{looks, looksSite, lookOf, decideOf, headOf, turnOf}
-use Rattle.decisions.specs.Turns.{turnAnswer, turnSeen}
+use Rattle.rules.specs.Machine.{looks, looksSite, lookOf, decideOf, headOf, tripSite, turnSeen, turnAnswer, turnOf}
 
 -- ---- where a turn looks
 
@@ -24,11 +23,6 @@ use Rattle.decisions.specs.Turns.{turnAnswer, turnSeen}
 abbrev pub readingLook : Reading → Look
 readingLook Reading.Nothing = looksSite 0 Trip.Nowhere
 readingLook (Reading.Known step) = lookOf step
-
-abbrev pub tripSite : Trip → ℕ
-tripSite Trip.Nowhere = 0
-tripSite (Trip.Sweep site) = site
-tripSite (Trip.Crash site) = site
 
 abbrev pub slotLook : Trip → ℕ → Look
 slotLook trip slot = looks MailAt.Nowhere (SlotAt.Given slot) (SiteAt.Given (tripSite trip)) Trip.Nowhere

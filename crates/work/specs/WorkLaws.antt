@@ -27,11 +27,11 @@ use Rattle.rules.specs.Sane.{Sane}
 use Rattle.rules.specs.Answers.{isAccepted}
 use Rattle.rules.specs.StoredLaws.{Placed, stored-seen}
 use Rattle.rules.specs.RefusedLaws.{turns-keep}
-use Rattle.rules.specs.Machine.{lowestEmpty, mailPlace, slotPlace, sitePlace, bankPlace, placesFor, placesOf, seenOf, isMessageOf, remains, lookOf, decideOf, stored, headOf, slotPlaces, turnOf, turnsUpTo, turnCount, stepInRangeOf}
+use Rattle.rules.specs.Machine.{lowestEmpty, mailPlace, slotPlace, sitePlace, bankPlace, placesFor, placesOf, seenOf, isMessageOf, remains, lookOf, decideOf, stored, headOf, tripPlaces, turnSeen, turnAnswer, turnOf, turnsUpTo, turnCount, stepInRangeOf}
 use Rattle.rules.specs.Record.{readingOf}
-use Rattle.decisions.specs.Turns.{turnAnswer, turnSeen, tripValue}
+use Rattle.decisions.specs.Turns.{tripValue}
 use Rattle.decisions.specs.TurnsLaws.{sane-at, turn-is-made, turn-counts, trip-starts, turn-count-most}
-use Rattle.work.specs.Work.{readingLook, tripSite, turnLook, stepScan, scanCount, readingDone, turnDone, readingHead, workUpTo}
+use Rattle.work.specs.Work.{readingLook, turnLook, stepScan, scanCount, readingDone, turnDone, readingHead, workUpTo}
 
 -- ---- what remains of a slot, found in one pass over the messages
 
@@ -179,21 +179,14 @@ slot-turn :
     (trip : Trip) (k : ℕ) (t : Tables) (before : Answer) → k < 16
     → made
     t
-    (slotPlaces (tripSite trip) (slotOf k))
+    (tripPlaces trip (slotOf k))
     (record {
-      answer = turnAnswer trip before (seenOf t (slotPlaces (tripSite trip) (slotOf k)));
-      left = turnSeen trip k (seenOf t (slotPlaces (tripSite trip) (slotOf k)));
+      answer = turnAnswer trip before (seenOf t (tripPlaces trip (slotOf k)));
+      left = turnSeen trip k (seenOf t (tripPlaces trip (slotOf k)));
     })
     ≡ turnOf trip k (record { answer = before; tables = t })
-slot-turn Trip.Nowhere k t before h =
-    let e : slotOf k ≡ k = omega arith in
-    rw e (turn-is-made Trip.Nowhere k (record { answer = before; tables = t }))
-slot-turn (Trip.Sweep site) k t before h =
-    let e : slotOf k ≡ k = omega arith in
-    rw e (turn-is-made (Trip.Sweep site) k (record { answer = before; tables = t }))
-slot-turn (Trip.Crash site) k t before h =
-    let e : slotOf k ≡ k = omega arith in
-    rw e (turn-is-made (Trip.Crash site) k (record { answer = before; tables = t }))
+slot-turn trip k t before h =
+    let e : slotOf k ≡ k = omega arith in rw e (turn-is-made trip k (record { answer = before; tables = t }))
 
 -- ---- the turns of the work are the head and then the turns of the trip
 

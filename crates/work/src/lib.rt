@@ -22,9 +22,9 @@ ghost use Prim.Native.Nat.{_≤_, _<_};
 ghost use mathlib.Core.Path.{_≡_};
 ghost use mathlib.Core.Bool.{_||_};
 ghost use Rattle.rules.specs.Sane.{Sane};
-ghost use Rattle.rules.specs.Machine.{isMessageOf};
+ghost use Rattle.rules.specs.Machine.{isMessageOf, tripSite};
 ghost use Rattle.decisions.specs.Turns.{tripValue};
-ghost use Rattle.work.specs.Work.{readingLook, tripSite, slotLook, turnLook, stepScan, scanCount, readingDone, slotDone, turnDone};
+ghost use Rattle.work.specs.Work.{readingLook, slotLook, turnLook, stepScan, scanCount, readingDone, slotDone, turnDone};
 
 // Where the first turn looks. A record that stands for no step looks at site 0, and leaves what it sees.
 pub fn reading_look(reading: Reading) -> Look

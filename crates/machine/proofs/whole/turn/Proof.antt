@@ -1,4 +1,5 @@
-use Rattle.decisions.specs.TurnsLaws.{placed-trip, turn-is-made}
+use Rattle.rules.specs.RangesLaws.{placed-trip}
+use Rattle.decisions.specs.TurnsLaws.{turn-is-made}
 use borrow.Author.Needs.{needs}
 use Rattle.machine.proofs.whole.turn.Statement.{statement}
 use Rattle.machine.proofs.whole.turn.Tie as tie
