@@ -34,6 +34,7 @@ pub mod EffectsCalls
 pub mod EffectsRounds
 pub mod EffectsPhases
 pub mod Runs
+pub mod Events
 pub mod Views
 pub mod Sheet
 pub mod SheetLaws

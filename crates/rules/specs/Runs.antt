@@ -30,7 +30,7 @@ recordAnswersOf t (r ∷ rs) = stepRecordOf t r .answer ∷ recordAnswersOf (ste
 
 -- ---- the list of accepted steps, in their order
 
--- an accepted step: its answer, where it looked (its site and its slot), whether it acted at that site, and the site's clock after it, which is its stamp
+-- an accepted step: its answer, where it looked (its site and its slot), whether it acted at that site, and its stamp
 pub record Entry : Type 0 where
   pub step : Step
   pub answer : Answer
@@ -57,6 +57,10 @@ actsAtSite (Step.Crash site) = true
 actsAtSite (Step.Recover site) = true
 actsAtSite (Step.Retire h) = false
 
+-- the clock after the step of the site that it acted at; 0 where it acts at no site
+abbrev pub stampOf : Tables → Step → ℕ
+stampOf t s = cond (actsAtSite s) (siteAt (stepOf t s .tables) (placesOf t (lookOf s) .site) .clock) 0
+
 abbrev pub entryOf : Tables → Step → Entry
 entryOf t s =
     record {
@@ -64,7 +68,7 @@ entryOf t s =
       answer = stepOf t s .answer;
       places = placesOf t (lookOf s);
       acted = actsAtSite s;
-      stamp = siteAt (stepOf t s .tables) (placesOf t (lookOf s) .site) .clock;
+      stamp = stampOf t s;
     }
 
 -- an entry for an accepted step, nothing for a refused one
