@@ -70,3 +70,10 @@ pub mod Handles
 pub mod Promised
 pub mod HeldFast
 pub mod Standing
+-- What happened, as a list: its definitions over a run, what each step does to who holds an object, and who holds one by the list.
+pub mod Uses
+pub mod HoldSteps
+pub mod HoldStores
+pub mod EventsLaws
+pub mod HeldByList
+pub mod UsesLaws
