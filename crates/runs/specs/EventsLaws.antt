@@ -30,7 +30,7 @@ pub refused-no-event : (t : Tables) (step : Step) → isAccepted (stepOf t step 
 unfolding eventsOf
 refused-no-event t step e = rw e
 
-acting-events :
+pub acting-events :
     (t : Tables) (step : Step) → isAccepted (stepOf t step .answer) ≡ true → actsAtSite step ≡ true
     → eventsOf t step ≡ deliveredOf t step ++ freedOf t step
 unfolding eventsOf

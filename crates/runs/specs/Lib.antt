@@ -75,5 +75,6 @@ pub mod Uses
 pub mod HoldSteps
 pub mod HoldStores
 pub mod EventsLaws
+pub mod EventsInPlace
 pub mod HeldByList
 pub mod UsesLaws

@@ -1,16 +1,28 @@
 -- What happened along a run, as a list: each event with the use of its slot; and who holds an object by that list. Assumes nothing.
-use Prim.Native.Nat.{ℕ, _+_}
+use Prim.Native.Nat.{ℕ, _+_, _<_}
 use mathlib.Core.Path.{_≡_}
 use mathlib.Core.Bool.{Bool, true, false, cond, _&&_, _||_}
 use mathlib.Core.List.{List, [], _∷_, _++_}
 use lib.Dec.{eqb}
 use Rattle.rules.specs.Loops.{oneIf}
-use Rattle.rules.specs.Tables.{start}
+use Rattle.rules.specs.Tables.{start, siteAt, objectSite}
 use Rattle.rules.specs.Answers.{isAccepted}
 use Rattle.rules.specs.Machine.{stepOf}
 use Rattle.rules.specs.Events.{EventKind, Event, eventsOf}
 use Rattle.runs.specs.Types.{Tables, Step}
 use Rattle.runs.specs.Orphans.{retires}
+
+-- ---- an event of a step in its place: a slot and an object that there are, the site where the object stands, and that site's clock after the step
+
+pub record InPlace (t : Tables) (step : Step) (e : Event) : Type 0 where
+  pub slot : e .slot < 16
+  pub object : e .object < 32
+  pub site : e .site ≡ objectSite (e .object)
+  pub stamp : e .stamp ≡ siteAt (stepOf t step .tables) (e .site) .clock
+
+abbrev pub AllInPlace : Tables → Step → List Event → Type 0
+AllInPlace t step [] = Unit {0}
+AllInPlace t step (e ∷ es) = InPlace t step e × AllInPlace t step es
 
 -- ---- the use of a slot: how many accepted retires of it came before, a number without end
 
