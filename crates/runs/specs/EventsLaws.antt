@@ -1,5 +1,4 @@
--- A step's events tell what it did to who holds an object: after them the list has it held exactly if the tables after the step have. Assumes nothing.
--- The idea: a took and a freed of other slots and objects change nothing, so of the list only those of this slot and this object count.
+-- A step's events tell what it did to who holds an object; the idea: of its list only those of this slot and this object count. Assumes nothing.
 use Prim.Native.Nat.{ℕ, zero, suc, _+_, _*_, _/_, _%_, _<_}
 use native.Mathlib.Omega.{arith}
 use native.Mathlib.Nat.{not-suc-le-zero}

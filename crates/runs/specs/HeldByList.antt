@@ -1,5 +1,4 @@
--- In every run an object is held by a passage in the tables exactly if by the list of what happened it has been taken and not freed since.
--- The idea: each step's events tell what it did; and a slot that is retired holds nothing, so that what is held is held in its present use. Assumes nothing.
+-- An object is held in the tables exactly if by the list it has been taken and not freed since; a retired slot holds nothing. Assumes nothing.
 use Prim.Native.Nat.{ℕ, _<_}
 use native.Mathlib.Omega.{arith}
 use native.Mathlib.Nat.{add-zero}

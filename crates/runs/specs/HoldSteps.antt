@@ -1,5 +1,4 @@
--- What each step does to who holds an object: a delivered call takes its own object for its slot; any other step at a site lets go there at most;
--- a step that acts at no site does neither. The idea: by the records that a step leaves, then by its store and its turns. Assumes nothing.
+-- What a step decides of who holds an object: a delivered call takes its own, any other step lets go at its site or does nothing. Assumes nothing.
 use Prim.Native.Nat.{ℕ, _/_, _%_, _<_}
 use native.Mathlib.Omega.{arith}
 use mathlib.Core.Path.{_≡_, refl, sym}
