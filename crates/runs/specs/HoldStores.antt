@@ -12,13 +12,13 @@ use Rattle.rules.specs.declared.answers.Trip.{Trip}
 use Rattle.rules.specs.LoopsLaws.{either}
 use Rattle.rules.specs.Tables.{pastObject, bankAt, objectSite}
 use Rattle.rules.specs.Ranges.{inRange}
-use Rattle.rules.specs.RangesLaws.{placed-places, placed-slots}
+use Rattle.rules.specs.RangesLaws.{placed-places, placed-trip}
 use Rattle.rules.specs.RangesKept.{turn-count-most}
 use Rattle.rules.specs.Answers.{isAccepted}
 use Rattle.rules.specs.Parts.{isHeldBy}
 use Rattle.rules.specs.Stations.{crashedSlot}
-use Rattle.rules.specs.Machine.{lookOf, placesOf, seenOf, remains, decideOf, stored, headOf, slotPlaces, sweepTurn, crashTurn, turnOf, turnsUpTo, turnCount, stepInRangeOf, stepOf}
-use Rattle.rules.specs.StoredLaws.{Sized, Placed}
+use Rattle.rules.specs.Machine.{lookOf, placesOf, seenOf, remains, decideOf, stored, headOf, tripPlaces, turnOf, turnsUpTo, turnCount, stepInRangeOf, stepOf}
+use Rattle.rules.specs.StoredLaws.{Sized, Placed, turn-stored, stored-seen}
 use Rattle.rules.specs.Events.{isHolding}
 use Rattle.runs.specs.Types.{Call, Tables, Step, Outcome, Places, Seen}
 use Rattle.runs.specs.Put.{same-or-other}
@@ -98,16 +98,18 @@ lets-go-on site t u v f g =
 turn-lets-go :
     (trip : Trip) (s slot : ℕ) (o : Outcome) → TripAt trip s → slot < 16 → Sized (o .tables)
     → LetsGoAt s (o .tables) (turnOf trip slot o .tables)
-unfolding sweepTurn crashTurn crashedSlot
-turn-lets-go Trip.Nowhere s slot o at l z = record { gained = λ p k e. e; away = λ p k n. refl }
+unfolding crashedSlot
+turn-lets-go Trip.Nowhere s slot o at l z =
+    rw (turn-stored Trip.Nowhere slot o, stored-seen (o .tables) (tripPlaces Trip.Nowhere slot)) (record { gained = λ p k e. e; away = λ p k n. refl })
 turn-lets-go (Trip.Sweep site) s slot o at l z =
+    let places = tripPlaces (Trip.Sweep site) slot in
     rw
-    (← at)
-    (stored-lets-go (o .tables) (slotPlaces site slot) _ z (placed-slots site slot l) (swept-lets-go site slot (seenOf (o .tables) (slotPlaces site slot))))
+    (turn-stored (Trip.Sweep site) slot o, ← at)
+    (stored-lets-go (o .tables) places _ z (placed-trip (Trip.Sweep site) slot l) (swept-lets-go site slot (seenOf (o .tables) places)))
 turn-lets-go (Trip.Crash site) s slot o at l z =
     rw
-    (← at)
-    (stored-lets-go (o .tables) (slotPlaces site slot) _ z (placed-slots site slot l) (λ i j p e. e))
+    (turn-stored (Trip.Crash site) slot o, ← at)
+    (stored-lets-go (o .tables) (tripPlaces (Trip.Crash site) slot) _ z (placed-trip (Trip.Crash site) slot l) (λ i j p e. e))
 
 turns-let-go :
     (trip : Trip) (s : ℕ) (o : Outcome) (n : ℕ) → TripAt trip s → n ≤ 16 → Sized (o .tables)
