@@ -19,6 +19,7 @@ use Rattle.rules.specs.Parts.{isHeldBy, isOver}
 use Rattle.rules.specs.Passages.{retireOf}
 use Rattle.rules.specs.Machine.{placesOf, remains, decideOf, headOf, stepOf}
 use Rattle.rules.specs.Runs.{actsAtSite, runOf}
+use Rattle.rules.specs.Views.{Generation, deedOf}
 use Rattle.rules.specs.Events.{Event, isHolding, eventsOf}
 use Rattle.runs.specs.Types.{Tables, Step}
 use Rattle.runs.specs.Plain.{repeat-has}
@@ -37,30 +38,21 @@ holder-is p Holder.Nobody e = absurd (false≢true e)
 holder-is p (Holder.Slot q) e = ap Holder.Slot (eqb-true q p e)
 
 -- a retire acts at no site, and nothing of its slot remains
-retire-leaves :
-    (t : Tables) (step : Step) (p : ℕ) → retires p step ≡ true → isAccepted (headOf t step .answer) ≡ true
+retired-leaves :
+    (t : Tables) (step : Step) (p : ℕ) → Generation step → retires p step ≡ true → isAccepted (headOf t step .answer) ≡ true
     → (actsAtSite step ≡ false) × (remains t p ≡ false)
 unfolding headOf placesOf decideOf retireOf
-retire-leaves t (Step.Tick site n) p e a = absurd (false≢true e)
-retire-leaves t (Step.Begin home slot q r) p e a = absurd (false≢true e)
-retire-leaves t (Step.Invoke h site write object value) p e a = absurd (false≢true e)
-retire-leaves t (Step.Refresh h q r) p e a = absurd (false≢true e)
-retire-leaves t (Step.Terminate h) p e a = absurd (false≢true e)
-retire-leaves t (Step.Prepare h) p e a = absurd (false≢true e)
-retire-leaves t (Step.Ask h site) p e a = absurd (false≢true e)
-retire-leaves t (Step.Close h) p e a = absurd (false≢true e)
-retire-leaves t (Step.Tell h site) p e a = absurd (false≢true e)
-retire-leaves t (Step.Abort h) p e a = absurd (false≢true e)
-retire-leaves t (Step.Deliver m) p e a = absurd (false≢true e)
-retire-leaves t (Step.Drop m) p e a = absurd (false≢true e)
-retire-leaves t (Step.Sweep site) p e a = absurd (false≢true e)
-retire-leaves t (Step.Crash site) p e a = absurd (false≢true e)
-retire-leaves t (Step.Recover site) p e a = absurd (false≢true e)
-retire-leaves t (Step.Retire h) p e a =
+retired-leaves t _ p (Generation.Retires h) e a =
     let q : slotOf h ≡ p = eqb-true (slotOf h) p e in (
       refl,
       subst (λ (x : ℕ). remains t x ≡ false) q (or-right (not (isOver (passageAt t (slotOf h) .status))) _ (accepted-fine _ _ a .state)),
     )
+retired-leaves t _ p (Generation.Stays step never stays) e a = absurd (false≢true (rw never at e))
+
+retire-leaves :
+    (t : Tables) (step : Step) (p : ℕ) → retires p step ≡ true → isAccepted (headOf t step .answer) ≡ true
+    → (actsAtSite step ≡ false) × (remains t p ≡ false)
+retire-leaves t step p = retired-leaves t step p (deedOf step .generation)
 
 -- who holds an object has a visit at its site
 remains-holding : (t : Tables) (p k : ℕ) → Held t → k < 32 → remains t p ≡ false → isHolding t p k ≡ false
