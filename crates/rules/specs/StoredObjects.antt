@@ -60,7 +60,8 @@ module _ (l xs : List Object) (b : ℕ) where
       getD-set-same set₃ (b + 3) _ pastObject (rw (length-set, length-set, length-set) s)
   four-same (suc (suc (suc (suc i)))) h s = absurd (omega arith)
 
-seen-object-at : (t : Tables) (b i : ℕ) → i < 4 → getD (bankAt t b) i pastObject ≡ objectAt t (4 * b + i)
+-- the i-th of the four objects seen
+pub seen-object-at : (t : Tables) (b i : ℕ) → i < 4 → getD (bankAt t b) i pastObject ≡ objectAt t (4 * b + i)
 seen-object-at t b zero h = rw (add-zero (4 * b))
 seen-object-at t b (suc zero) h = refl
 seen-object-at t b (suc (suc zero)) h = refl

@@ -24,12 +24,12 @@ use Rattle.rules.specs.Machine.{lookOf, placesOf, seenOf, bodyBank, decideOf, s
 use Rattle.rules.specs.StoredLaws.{Sized, Placed, visit-after-stored, turn-stored}
 use Rattle.rules.specs.RangesLaws.{placed-places, placed-trip}
 use Rattle.rules.specs.Runs.{runOf}
+use Rattle.rules.specs.StoredObjects.{seen-object-at, object-after-stored, object-after-stored-other, each-at}
 use Rattle.rules.specs.Views.{settled, Objects, Mail, mailOf, deedOf}
 use Rattle.runs.specs.Types.{Visit, Call, Told, Body, Tables, Step, Places, Seen, Outcome}
 use Rattle.runs.specs.Put.{same-or-other}
 use Rattle.runs.specs.Steps.{run-on}
 use Rattle.runs.specs.Sizes.{sized-run, sized-step, sized-step-has}
-use Rattle.runs.specs.Banks.{seen-object, object-after-stored, object-after-stored-other, each-at}
 use Rattle.runs.specs.Promised.{Promised, isWord, stored-has, promised-stays}
 
 -- ---- single objects
@@ -188,8 +188,8 @@ module _ (k p : ℕ) (slot : p < 16) where
       ⊎-elim
       (λ x. inl (ap (λ (o : Object). o .holder) (object-after-stored t at left z h k b) ∙ x))
       (λ x. inr (rw (b ∙ x .1 .0, x .0, visit-after-stored t at left z h) (x .1 .1)))
-      (f .holds (k % 4) p (omega arith) (ap (λ (o : Object). o .holder) (seen-object t (at .bank) (k % 4) (omega arith)) ∙ (rw y e))))
-      (λ n. inl (ap (λ (o : Object). o .holder) (object-after-stored-other t at left z h k n) ∙ e))
+      (f .holds (k % 4) p (omega arith) (ap (λ (o : Object). o .holder) (seen-object-at t (at .bank) (k % 4) (omega arith)) ∙ (rw y e))))
+      (λ n. inl (ap (λ (o : Object). o .holder) (object-after-stored-other t at left k n) ∙ e))
       (same-or-other (objectSite k) (at .bank))
 
   turn-fast :

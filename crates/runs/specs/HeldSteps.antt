@@ -25,9 +25,10 @@ use Rattle.rules.specs.Stations.{leftSite, isSwept, losesHome, crashedVisit, sw
 use Rattle.rules.specs.Passages.{beginOf, abortOf, retired, retireOf}
 use Rattle.rules.specs.Machine.{seenOf, bodyBank, turnSeen}
 use Rattle.rules.specs.RangesLaws.{set-keeps-at}
+use Rattle.rules.specs.StoredObjects.{each-at}
 use Rattle.runs.specs.Types.{Site, Kind, Visit, Call, Asked, Told, Body, Message, Tables, Places, Seen}
 use Rattle.runs.specs.TimesKept.{asked-says}
-use Rattle.runs.specs.Banks.{let-go-holder, taken-holder, each-at}
+use Rattle.runs.specs.Banks.{let-go-holder, taken-holder}
 use Rattle.runs.specs.HeldStore.{GoesHome, Held, Keeps}
 use Rattle.runs.specs.Clauses.{bodyKind}
 

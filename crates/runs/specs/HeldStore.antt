@@ -10,10 +10,10 @@ use Rattle.rules.specs.declared.tables.Object.{Object}
 use Rattle.rules.specs.LoopsLaws.{either}
 use Rattle.rules.specs.Tables.{pastObject, objectAt, visitAt, messageAt, bankAt, objectSite}
 use Rattle.rules.specs.Machine.{stored}
+use Rattle.rules.specs.StoredObjects.{seen-object-at, object-after-stored, object-after-stored-other}
 use Rattle.rules.specs.StoredLaws.{Sized, Placed, sized-after-stored, visit-place-same, visit-after-stored, visit-after-stored-other, message-after-stored, message-after-stored-other}
 use Rattle.runs.specs.Types.{Call, Body, Message, Tables, Places, Seen}
 use Rattle.runs.specs.Put.{same-or-other}
-use Rattle.runs.specs.Banks.{seen-object, object-after-stored, object-after-stored-other}
 
 -- ---- the invariant
 
@@ -79,7 +79,7 @@ module _ (t : Tables) (at : Places) (left : Seen) (k : Held t) (h : Placed at) (
       let q : j / 4 ≡ at .bank = b in
       let y : 4 * at .bank + j % 4 ≡ j = omega arith in
       let was : objectAt t j .holder ≡ Holder.Slot p =
-      subst (λ (i : ℕ). objectAt t i .holder ≡ Holder.Slot p) y (rw (seen-object t (at .bank) (j % 4) (omega arith)) at old) in
+      subst (λ (i : ℕ). objectAt t i .holder ≡ Holder.Slot p) y (rw (seen-object-at t (at .bank) (j % 4) (omega arith)) at old) in
       let v : (p < 16) × (visitAt t (objectSite j) p .there ≡ true) = k .visits j p l was in
       (v .0, visit-stays (objectSite j) p (v .0) (v .1) (λ y z free. free (j % 4) (omega arith) e))
   held-inside j p b l e (inr (s, (there, own))) =
@@ -104,7 +104,7 @@ module _ (t : Tables) (at : Places) (left : Seen) (k : Held t) (h : Placed at) (
       sym (ap (λ (o : Object). o .holder) (object-after-stored t at left (k .sized) h j b)) ∙ e in
       held-inside j p b l q (x .objects (j % 4) p (omega arith) q))
       (λ n.
-      held-outside j p n l (sym (ap (λ (o : Object). o .holder) (object-after-stored-other t at left (k .sized) h j n)) ∙ e))
+      held-outside j p n l (sym (ap (λ (o : Object). o .holder) (object-after-stored-other t at left j n)) ∙ e))
       (same-or-other (objectSite j) (at .bank))
 
   held-calls : (m : ℕ) (c : Call) → messageAt (stored t at left) m .body ≡ Body.Call c → GoesHome (messageAt (stored t at left) m) c

@@ -24,10 +24,10 @@ use Rattle.rules.specs.Rounds.{refreshOf, terminateOf, prepareOf, openOf, askOf
 use Rattle.rules.specs.Calls.{mailClock, mailSlot, calledObject, called, invokeOf, emptyOf, deliverCallOf, deliverPhaseOneOf, deliverPhaseTwoOf, deliverAnswerOf, deliverBodyOf, dropOf}
 use Rattle.rules.specs.Machine.{lookOf, placesOf, seenOf, decideOf}
 use Rattle.rules.specs.Runs.{actsAtSite}
+use Rattle.rules.specs.StoredObjects.{each-at}
 use Rattle.rules.specs.Events.{bodyEvents, deliveredOf}
 use Rattle.runs.specs.Types.{Call, Told, Body, Tables, Step, Places, Seen}
 use Rattle.runs.specs.Put.{same-or-other}
-use Rattle.runs.specs.Banks.{each-at}
 use Rattle.runs.specs.HeldStore.{Held}
 
 -- ---- single objects

@@ -20,9 +20,9 @@ use Rattle.rules.specs.Stations.{crashedSlot}
 use Rattle.rules.specs.Machine.{lookOf, placesOf, seenOf, remains, decideOf, stored, headOf, tripPlaces, turnOf, turnsUpTo, turnCount, stepInRangeOf, stepOf}
 use Rattle.rules.specs.StoredLaws.{Sized, Placed, turn-stored, stored-seen}
 use Rattle.rules.specs.Events.{isHolding}
+use Rattle.rules.specs.StoredObjects.{seen-object-at, object-after-stored, object-after-stored-other}
 use Rattle.runs.specs.Types.{Call, Tables, Step, Outcome, Places, Seen}
 use Rattle.runs.specs.Put.{same-or-other}
-use Rattle.runs.specs.Banks.{seen-object, object-after-stored, object-after-stored-other}
 use Rattle.runs.specs.Sizes.{sized-head, sized-turn}
 use Rattle.runs.specs.HoldSteps.{and-false, AllLetGo, TakesIn, TripAt, Took, LetGo, Idle, swept-lets-go}
 
@@ -40,13 +40,13 @@ module _ (t : Tables) (at : Places) (left : Seen) (z : Sized t) (h : Placed at) 
   inside p k e = ap (λ (o : Object). isHeldBy p (o .holder)) (object-after-stored t at left z h k e)
 
   outside : (p k : ℕ) → objectSite k ≢ at .bank → isHolding (stored t at left) p k ≡ isHolding t p k
-  outside p k n = ap (λ (o : Object). isHeldBy p (o .holder)) (object-after-stored-other t at left z h k n)
+  outside p k n = ap (λ (o : Object). isHeldBy p (o .holder)) (object-after-stored-other t at left k n)
 
   seen : (p k : ℕ) → objectSite k ≡ at .bank → isHeldBy p (getD (bankAt t (at .bank)) (k % 4) pastObject .holder) ≡ isHolding t p k
   seen p k e =
       let q : k / 4 ≡ at .bank = e in
       let y : 4 * at .bank + k % 4 ≡ k = omega arith in
-      rw (seen-object t (at .bank) (k % 4) (omega arith), y)
+      rw (seen-object-at t (at .bank) (k % 4) (omega arith), y)
 
   stored-lets-go : AllLetGo (bankAt t (at .bank)) (left .objects) → LetsGoAt (at .bank) t (stored t at left)
   stored-lets-go f =

@@ -20,10 +20,10 @@ use Rattle.rules.specs.Rounds.{closeOf, closed, roundTold}
 use Rattle.rules.specs.Calls.{mailClock, mailSlot, calledObject, called, deliverCallOf, deliverPhaseOneOf, deliverPhaseTwoOf, deliverBodyOf}
 use Rattle.rules.specs.Machine.{lookOf, placesOf, seenOf, decideOf, stored, headOf, turnOf, stepOf, tripPlaces, turnSeen}
 use Rattle.rules.specs.StoredLaws.{Sized, Placed, turn-stored}
+use Rattle.rules.specs.StoredObjects.{seen-object-at, object-after-stored, object-after-stored-other, each-at}
 use Rattle.rules.specs.Views.{settled, Objects, Mail, mailOf, deedOf}
 use Rattle.runs.specs.Types.{Kind, Call, Told, Body, Tables, Step, Outcome, Places, Seen}
 use Rattle.runs.specs.Put.{same-or-other}
-use Rattle.runs.specs.Banks.{seen-object, object-after-stored, object-after-stored-other, each-at}
 use Rattle.runs.specs.Sizes.{sized-step-has}
 use Rattle.runs.specs.Ledgers.{seenAt}
 use Rattle.runs.specs.Orphans.{tellsPrepare}
@@ -131,7 +131,7 @@ module _ (P : Object → Object → Type 0) (same : (o : Object) → P o o) (t :
   stored-all four k =
       ⊎-elim
       (λ b. rw (object-after-stored t at left z h k b) (inside b))
-      (λ n. rw (object-after-stored-other t at left z h k n) (same (objectAt t k)))
+      (λ n. rw (object-after-stored-other t at left k n) (same (objectAt t k)))
       (same-or-other (objectSite k) (at .bank))
     where
       inside : objectSite k ≡ at .bank → P (objectAt t k) (getD (left .objects) (k % 4) pastObject)
@@ -143,7 +143,7 @@ module _ (P : Object → Object → Type 0) (same : (o : Object) → P o o) (t :
           y
           (subst
           (λ (o : Object). P o (getD (left .objects) (k % 4) pastObject))
-          (seen-object t (at .bank) (k % 4) (omega arith))
+          (seen-object-at t (at .bank) (k % 4) (omega arith))
           (four (k % 4) (omega arith)))
 
 head-stands :
