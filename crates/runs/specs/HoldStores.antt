@@ -3,26 +3,25 @@ use Prim.Native.Nat.{ℕ, zero, suc, _+_, _*_, _/_, _%_, _≤_, _<_}
 use native.Mathlib.Omega.{arith}
 use mathlib.Core.Path.{_≡_, refl, sym, ap, _∙_, subst}
 use mathlib.Core.Logic.{_≢_, ⊎-elim}
-use mathlib.Core.Bool.{true, _&&_, _||_, false≢true}
+use mathlib.Core.Bool.{true, _&&_, _||_}
 use lib.Dec.{eqb}
 use lib.ListN.{getD}
 use borrow.Author.Tests.{eq-eqb, ne-eqb}
 use Rattle.rules.specs.declared.tables.Object.{Object}
 use Rattle.rules.specs.declared.answers.Trip.{Trip}
-use Rattle.rules.specs.LoopsLaws.{either}
 use Rattle.rules.specs.Tables.{pastObject, bankAt, objectSite}
-use Rattle.rules.specs.Ranges.{inRange}
 use Rattle.rules.specs.RangesLaws.{placed-places, placed-trip}
 use Rattle.rules.specs.RangesKept.{turn-count-most}
 use Rattle.rules.specs.Answers.{isAccepted}
 use Rattle.rules.specs.Parts.{isHeldBy}
 use Rattle.rules.specs.Stations.{crashedSlot}
-use Rattle.rules.specs.Machine.{lookOf, placesOf, seenOf, remains, decideOf, stored, headOf, tripPlaces, turnOf, turnsUpTo, turnCount, stepInRangeOf, stepOf}
+use Rattle.rules.specs.Machine.{lookOf, placesOf, seenOf, remains, decideOf, stored, headOf, tripPlaces, turnOf, turnsUpTo, turnCount, stepOf}
 use Rattle.rules.specs.StoredLaws.{Sized, Placed, turn-stored, stored-seen}
 use Rattle.rules.specs.Events.{isHolding}
 use Rattle.rules.specs.StoredObjects.{seen-object-at, object-after-stored, object-after-stored-other}
 use Rattle.runs.specs.Types.{Call, Tables, Step, Outcome, Places, Seen}
 use Rattle.runs.specs.Put.{same-or-other}
+use Rattle.runs.specs.Steps.{accepted-turned}
 use Rattle.runs.specs.Sizes.{sized-head, sized-turn}
 use Rattle.runs.specs.HoldSteps.{and-false, AllLetGo, TakesIn, TripAt, Took, LetGo, Idle, swept-lets-go}
 
@@ -124,24 +123,13 @@ turns-let-go trip s o (suc n) at l z =
 
 -- ---- the step
 
--- an accepted step is its own store and its turns
-accepted-is :
-    (t : Tables) (step : Step) → isAccepted (stepOf t step .answer) ≡ true
-    → stepOf t step .tables ≡ turnsUpTo (lookOf step .trip) (headOf t step) (turnCount (lookOf step .trip) (headOf t step .answer)) .tables
-unfolding stepOf stepInRangeOf
-accepted-is t step a =
-    ⊎-elim
-    (λ q. rw q)
-    (λ q. absurd (false≢true (rw q at a)))
-    (either (inRange t))
-
 -- no turns
 no-turns :
     (t : Tables) (step : Step) → lookOf step .trip ≡ Trip.Nowhere → isAccepted (stepOf t step .answer) ≡ true
     → stepOf t step .tables ≡ headOf t step .tables
 unfolding turnsUpTo
 no-turns t step n a =
-    accepted-is t step a
+    ap (λ (o : Outcome). o .tables) (accepted-turned t step a)
     ∙ ap (λ (x : Trip). turnsUpTo x (headOf t step) (turnCount x (headOf t step .answer)) .tables) n
 
 -- the records that an accepted step leaves
@@ -164,7 +152,7 @@ module _ (t : Tables) (step : Step) (z : Sized t) (a : isAccepted (stepOf t step
   unfolding headOf
   step-lets-go f =
       rw
-      (accepted-is t step a)
+      (accepted-turned t step a)
       (lets-go-on
       (placesOf t (lookOf step) .site)
       t
