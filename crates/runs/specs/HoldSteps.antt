@@ -100,7 +100,7 @@ told-lets-go : (told : Told) (p : ℕ) (os : List Object) → AllLetGo os (toldO
 told-lets-go (Told.Refresh q) p os i l = λ r e. e
 told-lets-go (Told.Terminate m) p os i l = λ r e. e
 told-lets-go Told.Prepare p os i l =
-    rw (each-at (freed p) os i l) (let-go-one p (getD os i pastObject .value) (getD os i pastObject))
+    rw (each-at (freed p) os i l) (let-go-one p _ (getD os i pastObject))
 
 closed-lets-go : (told : Told) (p clock : ℕ) (seen : Seen) → AllLetGo (seen .objects) (closed told p clock seen .objects)
 closed-lets-go told p clock seen =
@@ -120,7 +120,7 @@ swept-lets-go site slot seen =
     (isSwept seen)
     _
     seen
-    (λ i l. rw (each-at (restored slot) (seen .objects) i l) (let-go-one slot (getD (seen .objects) i pastObject .before) (getD (seen .objects) i pastObject)))
+    (λ i l. rw (each-at (restored slot) (seen .objects) i l) (let-go-one slot _ (getD (seen .objects) i pastObject)))
     (λ i l r e. e)
 
 -- the objects seen are four
