@@ -7,14 +7,14 @@ use checks::or_else;
 use checks::refuse;
 use checks::settle;
 use checks::site_down;
-use parts::passages::aborted_passage;
-use parts::passages::is_running;
-use parts::visits::clock_to;
-use parts::visits::quieted;
-use parts::visits::where_there;
-use rules::answers::Decision;
-use rules::answers::Refusal;
-use rules::answers::Seen;
+use parts::passage::aborted_passage;
+use parts::passage::is_running;
+use parts::visit::clock_to;
+use parts::visit::quieted;
+use parts::visit::where_there;
+use rules::looking::Seen;
+use rules::outcomes::Decision;
+use rules::outcomes::Refusal;
 ghost use mathlib.Core.Path.{_≡_};
 ghost use Rattle.rules.specs.Sane.{Sane};
 ghost use Rattle.rules.specs.Passages.{aborted, abortOf};
@@ -29,15 +29,11 @@ fn aborted(clock: u64, seen: Seen) -> Seen
     let site = clock_to(s, clock);
     let passage = aborted_passage(p);
     let visit = where_there(v, quieted(v, clock, false, v.dead));
-    let message = seen.message;
-    let objects = seen.objects;
-    Seen {
-        site: site,
-        passage: passage,
-        visit: visit,
-        message: message,
-        objects: objects,
-    }
+    let mut left = seen;
+    left.site = site;
+    left.passage = passage;
+    left.visit = visit;
+    left
 }
 
 // 10. abort

@@ -1,6 +1,6 @@
 // The number and the value of an answer, as document 01 gives them.
-use rules::answers::Answer;
-use rules::answers::Refusal;
+use rules::outcomes::Answer;
+use rules::outcomes::Refusal;
 ghost use mathlib.Core.Path.{_≡_};
 ghost use Rattle.rules.specs.Answers.{refusalNumber, answerNumber, answerValue};
 

@@ -5,19 +5,19 @@ use checks::or_else;
 use checks::refuse;
 use checks::settle;
 use checks::site_down;
-use parts::objects::is_held_by_other;
-use parts::objects::operated;
-use parts::objects::taken;
-use parts::passages::no_message;
+use parts::message::no_message;
+use parts::object::is_held_by_other;
+use parts::object::operated;
+use parts::object::taken;
 use parts::seen::mail_clock;
 use parts::seen::mail_slot;
-use parts::visits::clock_to;
-use parts::visits::count_received;
-use parts::visits::new_visit;
-use rules::answers::Decision;
-use rules::answers::Refusal;
-use rules::answers::Seen;
+use parts::visit::clock_to;
+use parts::visit::count_received;
+use parts::visit::new_visit;
 use rules::limits::COUNT_MOST;
+use rules::looking::Seen;
+use rules::outcomes::Decision;
+use rules::outcomes::Refusal;
 use rules::tables::Call;
 use rules::tables::Object;
 use rules::tables::Visit;
@@ -54,20 +54,18 @@ fn called(call: Call, clock: u64, seen: Seen) -> Seen
     let v = seen.visit;
     let slot = mail_slot(seen);
     let site = clock_to(s, clock);
-    let passage = seen.passage;
     let visit = count_received(called_visit(call, v));
     let message = no_message();
     let mut objects = seen.objects;
     let at = (call.object % 4) as usize;
     let object = operated(call, taken(slot, objects[at]));
     objects[at] = object;
-    Seen {
-        site: site,
-        passage: passage,
-        visit: visit,
-        message: message,
-        objects: objects,
-    }
+    let mut left = seen;
+    left.site = site;
+    left.visit = visit;
+    left.message = message;
+    left.objects = objects;
+    left
 }
 
 // 11. deliver of a call.

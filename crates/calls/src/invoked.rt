@@ -9,15 +9,15 @@ use checks::refuse;
 use checks::settle;
 use checks::site_down;
 use checks::visit_missing;
-use parts::passages::plain_message;
-use parts::visits::clock_to;
-use parts::visits::count_sent;
-use rules::answers::Decision;
-use rules::answers::Refusal;
-use rules::answers::Seen;
+use parts::message::plain_message;
+use parts::visit::clock_to;
+use parts::visit::count_sent;
 use rules::limits::COUNT_MOST;
 use rules::limits::OBJECT_MOST;
 use rules::limits::WIDTH_MOST;
+use rules::looking::Seen;
+use rules::outcomes::Decision;
+use rules::outcomes::Refusal;
 use rules::tables::Body;
 use rules::tables::Call;
 use rules::tables::Visit;
@@ -68,17 +68,13 @@ fn invoked(h: u16, site: u8, call: Call, clock: u64, seen: Seen) -> Seen
     let s = seen.site;
     let v = seen.visit;
     let moved = clock_to(s, clock);
-    let passage = seen.passage;
     let visit = count_sent(v, to as usize);
     let message = plain_message(Body::Call(call), site, to, h, clock);
-    let objects = seen.objects;
-    Seen {
-        site: moved,
-        passage: passage,
-        visit: visit,
-        message: message,
-        objects: objects,
-    }
+    let mut left = seen;
+    left.site = moved;
+    left.visit = visit;
+    left.message = message;
+    left
 }
 
 // Whether the visit has sent all the calls that it may to the object's site.

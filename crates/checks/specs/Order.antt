@@ -2,11 +2,11 @@
 use Prim.Native.Nat.{ℕ}
 use mathlib.Core.Bool.{cond, false}
 use mathlib.Core.List.{List, [], _∷_}
-use Rattle.rules.specs.declared.answers.Answer.{Answer}
-use Rattle.rules.specs.declared.answers.Check.{Check}
-use Rattle.rules.specs.declared.answers.Decision.{Decision}
-use Rattle.rules.specs.declared.answers.Refusal.{Refusal}
-use Rattle.rules.specs.declared.answers.Seen.{Seen}
+use Rattle.rules.specs.declared.outcomes.Answer.{Answer}
+use Rattle.rules.specs.declared.outcomes.Check.{Check}
+use Rattle.rules.specs.declared.outcomes.Decision.{Decision}
+use Rattle.rules.specs.declared.outcomes.Refusal.{Refusal}
+use Rattle.rules.specs.declared.looking.Seen.{Seen}
 use Rattle.rules.specs.Answers.{settleOf}
 
 -- of two checks the first that holds; where neither does, the next

@@ -3,8 +3,8 @@ use Prim.Native.Nat.{ℕ}
 use mathlib.Core.Path.{_≡_, refl, _∙_}
 use mathlib.Core.Logic.{⊎-elim}
 use mathlib.Core.List.{List, [], _∷_}
-use Rattle.rules.specs.declared.answers.Check.{Check}
-use Rattle.rules.specs.declared.answers.Seen.{Seen}
+use Rattle.rules.specs.declared.outcomes.Check.{Check}
+use Rattle.rules.specs.declared.looking.Seen.{Seen}
 use Rattle.rules.specs.Answers.{firstOf, settleOf}
 use Rattle.rules.specs.LoopsLaws.{either}
 use Rattle.checks.specs.Order.{orElse, triedOf, answerOf, settledBy}

@@ -1,16 +1,16 @@
 // How a step is refused: its checks as data, in the order of the refusal table; the first that holds refuses.
-use parts::passages::is_empty;
-use parts::passages::is_free;
-use rules::answers::Answer;
-use rules::answers::Check;
-use rules::answers::Decision;
-use rules::answers::Refusal;
-use rules::answers::Seen;
+use parts::message::is_empty;
+use parts::passage::is_free;
 use rules::limits::CLOCK_MOST;
 use rules::limits::HANDLE_MOST;
 use rules::limits::MESSAGE_MOST;
 use rules::limits::SITE_MOST;
 use rules::limits::TIME_MOST;
+use rules::looking::Seen;
+use rules::outcomes::Answer;
+use rules::outcomes::Check;
+use rules::outcomes::Decision;
+use rules::outcomes::Refusal;
 ghost use mathlib.Core.Path.{_≡_};
 ghost use Rattle.rules.specs.Answers.{refuse};
 ghost use Rattle.checks.specs.Order.{orElse, settledBy};

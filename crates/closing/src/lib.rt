@@ -7,20 +7,22 @@ use checks::or_else;
 use checks::refuse;
 use checks::settle;
 use checks::site_down;
-use parts::objects::told_objects;
-use parts::passages::is_phase_one;
-use parts::passages::told_of;
-use parts::passages::told_status;
-use parts::passages::with_phase;
-use parts::rounds::answer_count;
-use parts::rounds::is_closed;
-use parts::rounds::largest_quiesce;
-use parts::visits::clock_to;
-use parts::visits::told_visit;
-use parts::visits::where_there;
-use rules::answers::Decision;
-use rules::answers::Refusal;
-use rules::answers::Seen;
+use parts::object::told_objects;
+use parts::passage::with_round;
+use parts::passage::with_status;
+use parts::round::answer_count;
+use parts::round::is_closed;
+use parts::round::is_phase_one;
+use parts::round::largest_quiesce;
+use parts::round::told_of;
+use parts::round::told_status;
+use parts::round::with_phase;
+use parts::visit::clock_to;
+use parts::visit::told_visit;
+use parts::visit::where_there;
+use rules::looking::Seen;
+use rules::outcomes::Decision;
+use rules::outcomes::Refusal;
 use rules::tables::Object;
 use rules::tables::Passage;
 use rules::tables::Phase;
@@ -46,12 +48,7 @@ fn closed_passage(told: Told, p: Passage) -> Passage
     let status = told_status(told, before);
     let old = p.round;
     let round = with_phase(old, Phase::Two);
-    Passage {
-        status: status,
-        home: p.home,
-        round: round,
-        generation: p.generation,
-    }
+    with_round(with_status(p, status), round)
 }
 
 fn objects_where_there(v: Visit, changed: [Object; 4], objects: [Object; 4]) -> [Object; 4]
@@ -71,16 +68,14 @@ fn closed(told: Told, slot: u8, clock: u64, seen: Seen) -> Seen
     let site = clock_to(s, clock);
     let passage = closed_passage(told, p);
     let visit = where_there(v, told_visit(told, v));
-    let message = seen.message;
     let changed = told_objects(told, slot, held);
     let objects = objects_where_there(v, changed, held);
-    Seen {
-        site: site,
-        passage: passage,
-        visit: visit,
-        message: message,
-        objects: objects,
-    }
+    let mut left = seen;
+    left.site = site;
+    left.passage = passage;
+    left.visit = visit;
+    left.objects = objects;
+    left
 }
 
 // 8. close

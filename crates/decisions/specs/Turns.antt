@@ -1,7 +1,7 @@
 -- What a trip through a site's slots counts. Assumes nothing.
 use Prim.Native.Nat.{ℕ}
-use Rattle.rules.specs.declared.answers.Answer.{Answer}
-use Rattle.rules.specs.declared.answers.Trip.{Trip}
+use Rattle.rules.specs.declared.outcomes.Answer.{Answer}
+use Rattle.rules.specs.declared.looking.Trip.{Trip}
 use Rattle.rules.specs.Answers.{answerValue}
 
 -- what a trip has counted so far; only a sweep counts

@@ -8,11 +8,11 @@ use mathlib.Core.Bool.{Bool, true, false}
 use mathlib.Core.List.{List, [], _∷_}
 use Rattle.rules.specs.declared.tables.Tables.{Tables}
 use Rattle.rules.specs.declared.steps.Step.{Step}
-use Rattle.rules.specs.declared.answers.Answer.{Answer}
-use Rattle.rules.specs.declared.answers.Check.{Check}
-use Rattle.rules.specs.declared.answers.Outcome.{Outcome}
-use Rattle.rules.specs.declared.answers.Places.{Places}
-use Rattle.rules.specs.declared.answers.Trip.{Trip}
+use Rattle.rules.specs.declared.outcomes.Answer.{Answer}
+use Rattle.rules.specs.declared.outcomes.Check.{Check}
+use Rattle.rules.specs.declared.outcomes.Outcome.{Outcome}
+use Rattle.rules.specs.declared.looking.Places.{Places}
+use Rattle.rules.specs.declared.looking.Trip.{Trip}
 use Rattle.rules.specs.Ranges.{inRange}
 use Rattle.rules.specs.RangesLaws.{seen-in-range}
 use Rattle.rules.specs.RangesFits.{sane-seen}

@@ -13,8 +13,9 @@ use passages::begin;
 use passages::retire;
 use rounds::ask;
 use rounds::tell;
-use rules::answers::Decision;
-use rules::answers::Seen;
+use rules::looking::Found;
+use rules::looking::Seen;
+use rules::outcomes::Decision;
 use rules::steps::Step;
 use stations::sweep;
 use stations::tick;
@@ -22,10 +23,10 @@ ghost use mathlib.Core.Path.{_≡_};
 ghost use Rattle.rules.specs.Sane.{Sane};
 ghost use Rattle.rules.specs.Machine.{decideOf};
 
-// The decision, where place is the message slot that was looked at, and rest says whether a visit or message of the slot remains.
-pub fn decide(step: Step, place: usize, rest: bool, seen: Seen) -> Decision
+// The decision, from what looking found and saw.
+pub fn decide(step: Step, found: Found, seen: Seen) -> Decision
     requires { ⌜ Sane seen ⌝ }
-    ensures { λ r. ⌜ r ≡ decideOf step place rest seen ⌝ }
+    ensures { λ r. ⌜ r ≡ decideOf step found seen ⌝ }
 {
     match step {
         Step::Tick { site, n } => tick(site, n, seen),
@@ -41,7 +42,7 @@ pub fn decide(step: Step, place: usize, rest: bool, seen: Seen) -> Decision
             write,
             object,
             value,
-        } => invoke(handle, site, write, object, value, place, seen),
+        } => invoke(handle, site, write, object, value, found.place, seen),
         Step::Refresh {
             handle,
             quiesce,
@@ -49,15 +50,15 @@ pub fn decide(step: Step, place: usize, rest: bool, seen: Seen) -> Decision
         } => refresh(handle, quiesce, release, seen),
         Step::Terminate { handle } => terminate(handle, seen),
         Step::Prepare { handle } => prepare(handle, seen),
-        Step::Ask { handle, site } => ask(handle, site, place, seen),
+        Step::Ask { handle, site } => ask(handle, site, found.place, seen),
         Step::Close { handle } => close(handle, seen),
-        Step::Tell { handle, site } => tell(handle, site, place, seen),
+        Step::Tell { handle, site } => tell(handle, site, found.place, seen),
         Step::Abort { handle } => abort(handle, seen),
         Step::Deliver { message } => deliver(message, seen),
         Step::Drop { message } => drop(message, seen),
         Step::Sweep { site } => sweep(site, seen),
         Step::Crash { site } => crash(site, seen),
         Step::Recover { site } => recover(site, seen),
-        Step::Retire { handle } => retire(handle, rest, seen),
+        Step::Retire { handle } => retire(handle, found.remains, seen),
     }
 }

@@ -1,9 +1,9 @@
 // The sixteen slots of a sweep and of a crash.
 use outages::crashed_slot;
-use rules::answers::Answer;
-use rules::answers::Places;
-use rules::answers::Seen;
-use rules::answers::Trip;
+use rules::looking::Places;
+use rules::looking::Seen;
+use rules::looking::Trip;
+use rules::outcomes::Answer;
 use stations::is_swept;
 use stations::swept_slot;
 ghost use Prim.Native.Nat.{_+_, _≤_, _<_};

@@ -7,18 +7,18 @@ use checks::or_else;
 use checks::refuse;
 use checks::settle;
 use checks::site_down;
-use parts::passages::is_free;
-use parts::passages::is_phase_one;
-use parts::passages::no_message;
-use parts::passages::with_round;
-use parts::rounds::with_answer;
+use parts::message::no_message;
+use parts::passage::is_free;
+use parts::passage::with_round;
+use parts::round::is_phase_one;
+use parts::round::with_answer;
 use parts::seen::mail_clock;
-use parts::visits::clock_to;
+use parts::visit::clock_to;
 use phases::deliver_phase_one;
 use phases::deliver_phase_two;
-use rules::answers::Decision;
-use rules::answers::Refusal;
-use rules::answers::Seen;
+use rules::looking::Seen;
+use rules::outcomes::Decision;
+use rules::outcomes::Refusal;
 use rules::tables::Body;
 use rules::tables::Figures;
 ghost use mathlib.Core.Path.{_≡_};
@@ -46,16 +46,12 @@ fn answered_at(f: Figures, clock: u64, seen: Seen) -> Seen
     let old = p.round;
     let site = clock_to(s, clock);
     let passage = with_round(p, with_answer(old, source, f));
-    let visit = seen.visit;
     let message = no_message();
-    let objects = seen.objects;
-    Seen {
-        site: site,
-        passage: passage,
-        visit: visit,
-        message: message,
-        objects: objects,
-    }
+    let mut left = seen;
+    left.site = site;
+    left.passage = passage;
+    left.message = message;
+    left
 }
 
 // 11. deliver of an answer.

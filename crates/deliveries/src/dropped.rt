@@ -4,10 +4,10 @@ use checks::no_mail;
 use checks::or_else;
 use checks::refuse;
 use checks::settle;
-use parts::passages::no_message;
-use rules::answers::Decision;
-use rules::answers::Refusal;
-use rules::answers::Seen;
+use parts::message::no_message;
+use rules::looking::Seen;
+use rules::outcomes::Decision;
+use rules::outcomes::Refusal;
 ghost use mathlib.Core.Path.{_≡_};
 ghost use Rattle.rules.specs.Calls.{lost, dropOf};
 
@@ -15,18 +15,10 @@ ghost use Rattle.rules.specs.Calls.{lost, dropOf};
 fn lost(seen: Seen) -> Seen
     ensures { λ r. ⌜ r ≡ lost seen ⌝ }
 {
-    let site = seen.site;
-    let passage = seen.passage;
-    let visit = seen.visit;
     let message = no_message();
-    let objects = seen.objects;
-    Seen {
-        site: site,
-        passage: passage,
-        visit: visit,
-        message: message,
-        objects: objects,
-    }
+    let mut left = seen;
+    left.message = message;
+    left
 }
 
 // 12. drop

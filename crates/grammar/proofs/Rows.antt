@@ -5,8 +5,8 @@ use mathlib.Core.Path.{_≡_, refl}
 use mathlib.Core.List.{List, [], _∷_, map}
 use lib.ListN.{length, getD, List·getD-map}
 use Rattle.rules.specs.RecordLaws.{each-at}
-use Rattle.words.specs.declared.grammar.Edge.{Edge}
-use Rattle.words.specs.declared.grammar.Slot.{Slot}
+use Rattle.words.specs.declared.rows.Edge.{Edge}
+use Rattle.words.specs.declared.rows.Slot.{Slot}
 use Rattle.words.specs.Grammar.{edge, edges, edgeOf, takes, none, slots, slotAt}
 
 pub edge-made :

@@ -1,8 +1,8 @@
 // The two tables of the grammar, and where they are read.
 // Each function equals its definition in words' specs/Grammar.antt.
-use words::grammar::EDGE_COUNT;
-use words::grammar::Edge;
-use words::grammar::Slot;
+use words::rows::EDGE_COUNT;
+use words::rows::Edge;
+use words::rows::Slot;
 ghost use Prim.Native.Nat.{_+_, _≤_, _<_};
 ghost use mathlib.Core.Path.{_≡_};
 ghost use Rattle.rules.specs.Loops.{firstNext};

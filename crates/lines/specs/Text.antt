@@ -10,7 +10,7 @@ use lib.Dec.{ltb}
 use lib.ListN.{length, take, drop, set, length-append, take-append-drop}
 use lib.Seq.{length-take-le, take-at, drop-at, drop-drop, set-split, append-snoc}
 use Rattle.rules.specs.LoopsLaws.{cond-keeps}
-use Rattle.rules.specs.declared.answers.Answer.{Answer}
+use Rattle.rules.specs.declared.outcomes.Answer.{Answer}
 use Rattle.rules.specs.Answers.{answerNumber, answerValue}
 use Rattle.rules.specs.Listing.{digitsOf, decimalOf, lineOf, sheetLine}
 

@@ -3,9 +3,9 @@
 mod whole;
 
 use ranges::in_range;
-use rules::answers::Answer;
-use rules::answers::Outcome;
-use rules::answers::Refusal;
+use rules::outcomes::Answer;
+use rules::outcomes::Outcome;
+use rules::outcomes::Refusal;
 use rules::steps::Step;
 use rules::tables::Tables;
 ghost use mathlib.Core.Path.{_≡_};

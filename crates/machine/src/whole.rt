@@ -6,24 +6,25 @@ use decisions::turns::turn_count;
 use decisions::turns::turn_seen;
 use places::look::bank_place;
 use places::look::first_next;
+use places::look::is_message_of;
 use places::look::look_of;
 use places::look::mail_place;
 use places::look::site_place;
 use places::look::slot_place;
 use records::read_record;
-use rules::answers::Answer;
-use rules::answers::Look;
-use rules::answers::Outcome;
-use rules::answers::Places;
-use rules::answers::Refusal;
-use rules::answers::Seen;
-use rules::answers::Trip;
+use rules::looking::Found;
+use rules::looking::Look;
+use rules::looking::Places;
+use rules::looking::Seen;
+use rules::looking::Trip;
+use rules::outcomes::Answer;
+use rules::outcomes::Outcome;
+use rules::outcomes::Refusal;
 use rules::steps::Reading;
 use rules::steps::Step;
 use rules::tables::Message;
 use rules::tables::Tables;
 use rules::tables::Visit;
-use work::is_message_of;
 ghost use Prim.Native.Nat.{_≤_, _<_};
 ghost use mathlib.Core.Path.{_≡_};
 ghost use mathlib.Core.Bool.{true};
@@ -176,7 +177,11 @@ fn head(t: Tables, step: Step, look: Look) -> Outcome
 {
     let at = places_of(t, look);
     let seen = see(t, at);
-    let d = decide(step, at.message, remains(t, at.slot), seen);
+    let found = Found {
+        place: at.message,
+        remains: remains(t, at.slot),
+    };
+    let d = decide(step, found, seen);
     let answer = d.answer;
     let left = d.left;
     let tables = store(t, at, left);

@@ -4,7 +4,7 @@ use answers::answer_value;
 use libc::STDOUT_FILENO;
 use machine::step;
 use machine::step_record;
-use rules::answers::Outcome;
+use rules::outcomes::Outcome;
 use rules::steps::Step;
 use rules::tables::Body;
 use rules::tables::Call;
@@ -19,7 +19,7 @@ use rules::tables::Site;
 use rules::tables::Status;
 use rules::tables::Tables;
 use rules::tables::Visit;
-use tables::start::start;
+use start::start;
 
 fn show(o: Outcome) {
     let answer = o.answer;

@@ -9,20 +9,22 @@ use checks::refuse;
 use checks::settle;
 use checks::site_down;
 use checks::visit_missing;
-use parts::passages::asked_of;
-use parts::passages::asked_status;
-use parts::passages::is_aborted;
-use parts::passages::is_active;
-use parts::passages::is_running;
-use parts::rounds::opened_round;
-use parts::rounds::with_answer;
-use parts::visits::asked_visit;
-use parts::visits::clock_to;
-use parts::visits::figures_of;
-use rules::answers::Decision;
-use rules::answers::Refusal;
-use rules::answers::Seen;
+use parts::passage::is_aborted;
+use parts::passage::is_active;
+use parts::passage::is_running;
+use parts::passage::with_round;
+use parts::passage::with_status;
+use parts::round::asked_of;
+use parts::round::asked_status;
+use parts::round::opened_round;
+use parts::round::with_answer;
+use parts::visit::asked_visit;
+use parts::visit::clock_to;
+use parts::visit::figures_of;
 use rules::limits::COUNT_MOST;
+use rules::looking::Seen;
+use rules::outcomes::Decision;
+use rules::outcomes::Refusal;
 use rules::tables::Kind;
 use rules::tables::Passage;
 use rules::tables::Visit;
@@ -52,12 +54,7 @@ fn opened_passage(kind: Kind, p: Passage, v: Visit) -> Passage
     let old = p.round;
     let home = p.home as usize;
     let round = with_answer(opened_round(old, kind), home, figures_of(v));
-    Passage {
-        status: status,
-        home: p.home,
-        round: round,
-        generation: p.generation,
-    }
+    with_round(with_status(p, status), round)
 }
 
 // What opening a round leaves at this clock.
@@ -70,15 +67,11 @@ fn opened(kind: Kind, clock: u64, seen: Seen) -> Seen
     let site = clock_to(s, clock);
     let visit = opened_visit(kind, clock, seen);
     let passage = opened_passage(kind, p, visit);
-    let message = seen.message;
-    let objects = seen.objects;
-    Seen {
-        site: site,
-        passage: passage,
-        visit: visit,
-        message: message,
-        objects: objects,
-    }
+    let mut left = seen;
+    left.site = site;
+    left.passage = passage;
+    left.visit = visit;
+    left
 }
 
 // What refresh, terminate and prepare share: a round opens, unless a field is bad, the status wrong, or the rest of the table refuses.

@@ -6,16 +6,16 @@ use checks::or_else;
 use checks::refuse;
 use checks::settle;
 use checks::site_down;
-use parts::passages::aborted_passage;
-use parts::passages::is_running;
+use parts::passage::aborted_passage;
+use parts::passage::is_running;
 use parts::seen::left_site;
-use parts::visits::quieted;
-use parts::visits::where_there;
-use rules::answers::Decision;
-use rules::answers::Refusal;
-use rules::answers::Seen;
+use parts::visit::clock_to;
+use parts::visit::quieted;
+use parts::visit::where_there;
+use rules::looking::Seen;
+use rules::outcomes::Decision;
+use rules::outcomes::Refusal;
 use rules::tables::Passage;
-use rules::tables::Site;
 use rules::tables::Visit;
 ghost use mathlib.Core.Path.{_≡_};
 ghost use Rattle.rules.specs.Sane.{Sane};
@@ -31,10 +31,8 @@ pub fn crash(site: u8, seen: Seen) -> Decision
     let tried = refuse(Refusal::BadField, bad_site(site));
     let tried = or_else(tried, site_down(seen));
     let tried = or_else(tried, clock_full(clock));
-    let down = Site {
-        clock: clock,
-        up: false,
-    };
+    let mut down = clock_to(s, clock);
+    down.up = false;
     let left = left_site(seen, down);
     settle(tried, 0, left, seen)
 }
@@ -73,15 +71,10 @@ pub fn crashed_slot(site: u8, slot: u8, seen: Seen) -> Seen
     let homeless = loses_home(site, old);
     let passage = crashed_passage(homeless, old);
     let visit = where_there(v, crashed_visit(homeless, s.clock, v));
-    let message = seen.message;
-    let objects = seen.objects;
-    Seen {
-        site: s,
-        passage: passage,
-        visit: visit,
-        message: message,
-        objects: objects,
-    }
+    let mut left = seen;
+    left.passage = passage;
+    left.visit = visit;
+    left
 }
 
 // 15. recover: up again.
@@ -94,10 +87,8 @@ pub fn recover(site: u8, seen: Seen) -> Decision
     let tried = refuse(Refusal::BadField, bad_site(site));
     let tried = or_else(tried, refuse(Refusal::WrongState, s.up));
     let tried = or_else(tried, clock_full(clock));
-    let up = Site {
-        clock: clock,
-        up: true,
-    };
+    let mut up = clock_to(s, clock);
+    up.up = true;
     let left = left_site(seen, up);
     settle(tried, 0, left, seen)
 }

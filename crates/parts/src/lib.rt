@@ -1,7 +1,8 @@
 // The small changes of single records that the sixteen steps are made of.
 // Each function equals the definition of the same name in rules' specs/Parts.antt, unless its file says another.
-pub mod objects;
-pub mod passages;
-pub mod rounds;
+pub mod message;
+pub mod object;
+pub mod passage;
+pub mod round;
 pub mod seen;
-pub mod visits;
+pub mod visit;

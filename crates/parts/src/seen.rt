@@ -1,28 +1,20 @@
 // What was seen, as a whole: with another site in it, and what its message says of clock, slot and home.
-// Each function equals the definition of the same name in rules' specs/Stations.antt or specs/Calls.antt.
-use rules::answers::Seen;
+// Each function equals the definition of the same name in rules' specs/Parts.antt or specs/Calls.antt.
+use rules::looking::Seen;
 use rules::tables::Site;
 ghost use Prim.Native.Nat.{max};
 ghost use mathlib.Core.Path.{_≡_};
 ghost use Rattle.rules.specs.Sane.{Sane};
 ghost use Rattle.rules.specs.Calls.{mailClock, mailSlot, atHome};
-ghost use Rattle.rules.specs.Stations.{leftSite};
+ghost use Rattle.rules.specs.Parts.{leftSite};
 
 // What was seen, with another site.
 pub fn left_site(seen: Seen, site: Site) -> Seen
     ensures { λ r. ⌜ r ≡ leftSite seen site ⌝ }
 {
-    let passage = seen.passage;
-    let visit = seen.visit;
-    let message = seen.message;
-    let objects = seen.objects;
-    Seen {
-        site: site,
-        passage: passage,
-        visit: visit,
-        message: message,
-        objects: objects,
-    }
+    let mut left = seen;
+    left.site = site;
+    left
 }
 
 // The later of two clocks.

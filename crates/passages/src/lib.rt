@@ -9,33 +9,30 @@ use checks::or_else;
 use checks::refuse;
 use checks::settle;
 use checks::site_down;
-use parts::passages::is_free;
-use parts::passages::is_over;
-use parts::rounds::no_round;
-use parts::visits::clock_to;
-use parts::visits::new_visit;
-use rules::answers::Decision;
-use rules::answers::Refusal;
-use rules::answers::Seen;
+use parts::passage::free_slot;
+use parts::passage::is_free;
+use parts::passage::is_over;
+use parts::passage::with_status;
+use parts::visit::clock_to;
+use parts::visit::new_visit;
 use rules::limits::SLOT_MOST;
+use rules::looking::Seen;
+use rules::outcomes::Decision;
+use rules::outcomes::Refusal;
 use rules::tables::Passage;
 use rules::tables::Status;
 ghost use mathlib.Core.Path.{_≡_};
 ghost use Rattle.rules.specs.Sane.{Sane};
-ghost use Rattle.rules.specs.Tables.{handleOf, freeSlot};
+ghost use Rattle.rules.specs.Tables.{handleOf};
 ghost use Rattle.rules.specs.Passages.{begunPassage, begun, beginOf, nextGeneration, retired, retireOf};
 
 // An active passage with this home, round 0, in the slot's generation.
 fn begun_passage(home: u8, p: Passage) -> Passage
     ensures { λ r. ⌜ r ≡ begunPassage home p ⌝ }
 {
-    let round = no_round();
-    Passage {
-        status: Status::Active,
-        home: home,
-        round: round,
-        generation: p.generation,
-    }
+    let mut left = with_status(free_slot(p.generation), Status::Active);
+    left.home = home;
+    left
 }
 
 // slot + 16 * generation
@@ -75,15 +72,11 @@ fn begun(home: u8, quiesce: u32, release: u32, clock: u64, seen: Seen) -> Seen
     let site = clock_to(s, clock);
     let passage = begun_passage(home, p);
     let visit = new_visit(quiesce, release, 0);
-    let message = seen.message;
-    let objects = seen.objects;
-    Seen {
-        site: site,
-        passage: passage,
-        visit: visit,
-        message: message,
-        objects: objects,
-    }
+    let mut left = seen;
+    left.site = site;
+    left.passage = passage;
+    left.visit = visit;
+    left
 }
 
 // 255 is followed by 0.
@@ -93,37 +86,15 @@ fn next_generation(generation: u8) -> u8
     std::num::wrapping_add_u8(generation, 1)
 }
 
-// A free slot, in the generation after this one.
-fn freed_slot(p: Passage) -> Passage
-    ensures { λ r. ⌜ r ≡ freeSlot (nextGeneration (p .generation)) ⌝ }
-{
-    let round = no_round();
-    let generation = next_generation(p.generation);
-    Passage {
-        status: Status::Free,
-        home: 0,
-        round: round,
-        generation: generation,
-    }
-}
-
 // What a retire leaves: the slot free, its generation moved on.
 fn retired(seen: Seen) -> Seen
     ensures { λ r. ⌜ r ≡ retired seen ⌝ }
 {
-    let site = seen.site;
     let p = seen.passage;
-    let passage = freed_slot(p);
-    let visit = seen.visit;
-    let message = seen.message;
-    let objects = seen.objects;
-    Seen {
-        site: site,
-        passage: passage,
-        visit: visit,
-        message: message,
-        objects: objects,
-    }
+    let passage = free_slot(next_generation(p.generation));
+    let mut left = seen;
+    left.passage = passage;
+    left
 }
 
 // 16. retire, where remains says whether a visit or message of the slot does.

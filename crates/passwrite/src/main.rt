@@ -1,7 +1,7 @@
 // Words on standard input, a sheet on standard output, or the line that names what is wrong. Nothing is decided here.
 use libc::STDIN_FILENO;
 use libc::STDOUT_FILENO;
-use reading::sheet::put_sheet;
+use reading::put_sheet;
 
 // Whether the input ended where reading stopped, and did not fail.
 fn at_end() -> bool {

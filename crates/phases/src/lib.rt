@@ -7,24 +7,24 @@ use checks::refuse;
 use checks::settle;
 use checks::site_down;
 use checks::visit_missing;
-use parts::objects::told_objects;
-use parts::passages::answer_message;
-use parts::passages::asked_status;
-use parts::passages::asks_life;
-use parts::passages::no_message;
-use parts::passages::tells_life;
-use parts::passages::told_status;
-use parts::passages::with_status;
+use parts::message::answer_message;
+use parts::message::no_message;
+use parts::object::told_objects;
+use parts::passage::with_status;
+use parts::round::asked_status;
+use parts::round::asks_life;
+use parts::round::tells_life;
+use parts::round::told_status;
 use parts::seen::at_home;
 use parts::seen::mail_clock;
 use parts::seen::mail_slot;
-use parts::visits::asked_visit;
-use parts::visits::clock_to;
-use parts::visits::told_visit;
-use rules::answers::Check;
-use rules::answers::Decision;
-use rules::answers::Refusal;
-use rules::answers::Seen;
+use parts::visit::asked_visit;
+use parts::visit::clock_to;
+use parts::visit::told_visit;
+use rules::looking::Seen;
+use rules::outcomes::Check;
+use rules::outcomes::Decision;
+use rules::outcomes::Refusal;
 use rules::tables::Asked;
 use rules::tables::Message;
 use rules::tables::Passage;
@@ -86,14 +86,12 @@ fn asked_at(number: u16, asked: Asked, clock: u64, seen: Seen) -> Seen
     let passage = status_at_home(asked_status(asked, status), seen);
     let visit = asked_visit(asked, number, clock, v);
     let message = reply_of(visit, clock, seen);
-    let objects = seen.objects;
-    Seen {
-        site: site,
-        passage: passage,
-        visit: visit,
-        message: message,
-        objects: objects,
-    }
+    let mut left = seen;
+    left.site = site;
+    left.passage = passage;
+    left.visit = visit;
+    left.message = message;
+    left
 }
 
 // 11. deliver of a phase 1 message.
@@ -122,13 +120,13 @@ fn told_at(told: Told, clock: u64, seen: Seen) -> Seen
     let visit = told_visit(told, v);
     let message = no_message();
     let objects = told_objects(told, mail_slot(seen), held);
-    Seen {
-        site: site,
-        passage: passage,
-        visit: visit,
-        message: message,
-        objects: objects,
-    }
+    let mut left = seen;
+    left.site = site;
+    left.passage = passage;
+    left.visit = visit;
+    left.message = message;
+    left.objects = objects;
+    left
 }
 
 // 11. deliver of a phase 2 message.

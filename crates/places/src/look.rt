@@ -1,22 +1,23 @@
 // Where a step looks: its message slot, its passage slot, its site, and the site whose objects it sees.
 // A remainder makes each place one that exists; a field out of range is refused by 2 before what was seen matters.
-use parts::passages::is_empty;
-use rules::answers::Look;
-use rules::answers::MailAt;
-use rules::answers::SiteAt;
-use rules::answers::SlotAt;
-use rules::answers::Trip;
+use parts::message::is_empty;
 use rules::limits::MESSAGE_MOST;
+use rules::looking::Look;
+use rules::looking::MailAt;
+use rules::looking::SiteAt;
+use rules::looking::SlotAt;
+use rules::looking::Trip;
 use rules::steps::Step;
 use rules::tables::Body;
 use rules::tables::Message;
 use rules::tables::Passage;
+use rules::tables::Visit;
 ghost use Prim.Native.Nat.{_+_, _<_, min};
 ghost use mathlib.Core.Path.{_≡_};
-ghost use mathlib.Core.Bool.{cond};
+ghost use mathlib.Core.Bool.{cond, _||_};
 ghost use Rattle.rules.specs.Loops.{firstNext};
 ghost use Rattle.rules.specs.Parts.{isEmpty};
-ghost use Rattle.rules.specs.Machine.{looks, looksHome, looksSite, lookOf, mailPlace, slotPlace, sitePlace, bodyBank, bankPlace};
+ghost use Rattle.rules.specs.Machine.{looks, looksHome, looksSite, lookOf, mailPlace, slotPlace, sitePlace, bodyBank, bankPlace, isMessageOf};
 
 // A step for a handle acts at its home.
 fn looks_home(mail: MailAt, h: u16) -> Look
@@ -121,6 +122,21 @@ pub fn first_next(found: usize, i: usize, m: Message) -> usize
     let body = m.body;
     let next = here_or_next(i, is_empty(body));
     if found == i { next } else { found }
+}
+
+pub fn is_message_of(slot: usize, m: Message) -> bool
+    ensures { λ r. ⌜ r ≡ isMessageOf slot m ⌝ }
+{
+    let body = m.body;
+    !is_empty(body) & ((m.handle % 16) as usize == slot)
+}
+
+// One step of the search for what remains of a passage slot: so far, or this message of it, or this visit of it.
+pub fn rest_next(rest: bool, slot: usize, m: Message, v: Visit) -> bool
+    ensures { λ r. ⌜ r ≡ (rest || (isMessageOf slot m || v .there)) ⌝ }
+{
+    let there = v.there;
+    rest | (is_message_of(slot, m) | there)
 }
 
 fn at_most(a: usize, b: usize) -> usize

@@ -10,15 +10,15 @@ use checks::refuse;
 use checks::settle;
 use checks::site_down;
 use closing::round_told;
-use parts::passages::asked_of;
-use parts::passages::is_phase_one;
-use parts::passages::is_phase_two;
-use parts::passages::plain_message;
-use parts::rounds::has_answered;
-use parts::visits::clock_to;
-use rules::answers::Decision;
-use rules::answers::Refusal;
-use rules::answers::Seen;
+use parts::message::plain_message;
+use parts::round::asked_of;
+use parts::round::has_answered;
+use parts::round::is_phase_one;
+use parts::round::is_phase_two;
+use parts::visit::clock_to;
+use rules::looking::Seen;
+use rules::outcomes::Decision;
+use rules::outcomes::Refusal;
 use rules::tables::Body;
 use rules::tables::Round;
 ghost use mathlib.Core.Path.{_≡_};
@@ -32,16 +32,11 @@ fn sent_out(body: Body, h: u16, site: u8, clock: u64, seen: Seen) -> Seen
     let s = seen.site;
     let moved = clock_to(s, clock);
     let passage = seen.passage;
-    let visit = seen.visit;
     let message = plain_message(body, passage.home, site, h, clock);
-    let objects = seen.objects;
-    Seen {
-        site: moved,
-        passage: passage,
-        visit: visit,
-        message: message,
-        objects: objects,
-    }
+    let mut left = seen;
+    left.site = moved;
+    left.message = message;
+    left
 }
 
 fn ask_body(round: Round) -> Body

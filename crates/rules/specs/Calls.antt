@@ -9,7 +9,7 @@ use Rattle.rules.specs.Types.{Object, Figures, Status, Passage, Visit, C
 use Rattle.rules.specs.Limits.{widthMost, countMost, objectMost}
 use Rattle.rules.specs.Tables.{objectSite, slotOf, pastObject, noMessage}
 use Rattle.rules.specs.Answers.{refuse, firstOf, settleOf}
-use Rattle.rules.specs.Parts.{clockTo, nextClock, deliveryClock, isFree, isPhaseOne, withStatus, withRound, newVisit, countSent, countReceived, isHeldByOther, taken, operated, withAnswer, askedVisit, askedStatus, toldVisit, toldObjects, toldStatus, asksLife, tellsLife, plainMessage, answerMessage}
+use Rattle.rules.specs.Parts.{nextClock, deliveryClock, isFree, isPhaseOne, withStatus, withRound, newVisit, countSent, countReceived, isHeldByOther, taken, operated, withAnswer, askedVisit, askedStatus, toldVisit, toldObjects, toldStatus, asksLife, tellsLife, plainMessage, answerMessage, leftPassage, leftVisit, leftMessage, leftObjects, atClock}
 use Rattle.rules.specs.Checks.{badSite, badHandle, badMessage, noPassage, noMail, siteDown, visitMissing, clockFull, isFull}
 
 -- ---- 3. invoke h, a=site, b=0 read or 1 write, c=object, u=value (0 for read). Value: message slot.
@@ -57,13 +57,9 @@ callOf write object value v =
 -- what an invoke leaves at this clock, for this call
 abbrev pub invoked : ℕ → ℕ → Call → ℕ → Seen → Seen
 invoked h site call clock seen =
-    record {
-      site = clockTo (seen .site) clock;
-      passage = seen .passage;
-      visit = countSent (seen .visit) (callSite (call .object));
-      message = plainMessage (Body.Call call) site (callSite (call .object)) h clock;
-      objects = seen .objects;
-    }
+    leftMessage
+    (leftVisit (atClock seen clock) (countSent (seen .visit) (callSite (call .object))))
+    (plainMessage (Body.Call call) site (callSite (call .object)) h clock)
 
 abbrev pub invokeDone : ℕ → ℕ → ℕ → ℕ → ℕ → ℕ → Seen → Decision
 invokeDone h site write object value place seen =
@@ -124,17 +120,9 @@ callChecks m c seen =
 -- "Received grows by 1. The object is taken if unheld, then read or written."
 abbrev pub called : Call → ℕ → Seen → Seen
 called c clock seen =
-    record {
-      site = clockTo (seen .site) clock;
-      passage = seen .passage;
-      visit = countReceived (calledVisit c (seen .visit));
-      message = noMessage;
-      objects =
-          set
-          (seen .objects)
-          (c .object % 4)
-          (operated c (taken (mailSlot seen) (calledObject c seen)));
-    }
+    leftObjects
+    (leftMessage (leftVisit (atClock seen clock) (countReceived (calledVisit c (seen .visit)))) noMessage)
+    (set (seen .objects) (c .object % 4) (operated c (taken (mailSlot seen) (calledObject c seen))))
 
 -- "Value: the object's value before the operation."
 abbrev pub callDone : ℕ → Call → Seen → Decision
@@ -179,13 +167,11 @@ replyOf v clock seen =
 
 abbrev pub askedAt : ℕ → Asked → ℕ → Seen → Seen
 askedAt n asked clock seen =
-    record {
-      site = clockTo (seen .site) clock;
-      passage = statusAtHome (askedStatus asked (seen .passage .status)) seen;
-      visit = askedVisit asked n clock (seen .visit);
-      message = replyOf (askedVisit asked n clock (seen .visit)) clock seen;
-      objects = seen .objects;
-    }
+    leftMessage
+    (leftVisit
+    (leftPassage (atClock seen clock) (statusAtHome (askedStatus asked (seen .passage .status)) seen))
+    (askedVisit asked n clock (seen .visit)))
+    (replyOf (askedVisit asked n clock (seen .visit)) clock seen)
 
 -- 9: "delivered phase 1: number ≤ the visit's"
 abbrev pub phaseOneDone : ℕ → ℕ → Asked → Seen → Decision
@@ -200,13 +186,13 @@ deliverPhaseOneOf m n asked seen = settleOf (phaseOneDone m n asked seen) seen
 
 abbrev pub toldAt : Told → ℕ → Seen → Seen
 toldAt told clock seen =
-    record {
-      site = clockTo (seen .site) clock;
-      passage = statusAtHome (toldStatus told (seen .passage .status)) seen;
-      visit = toldVisit told (seen .visit);
-      message = noMessage;
-      objects = toldObjects told (mailSlot seen) (seen .objects);
-    }
+    leftObjects
+    (leftMessage
+    (leftVisit
+    (leftPassage (atClock seen clock) (statusAtHome (toldStatus told (seen .passage .status)) seen))
+    (toldVisit told (seen .visit)))
+    noMessage)
+    (toldObjects told (mailSlot seen) (seen .objects))
 
 -- 9: "phase 2: not equal"
 abbrev pub phaseTwoDone : ℕ → ℕ → Told → Seen → Decision
@@ -231,14 +217,11 @@ answerChecks m n seen =
 
 abbrev pub answeredAt : Figures → ℕ → Seen → Seen
 answeredAt f clock seen =
-    record {
-      site = clockTo (seen .site) clock;
-      passage =
-          withRound (seen .passage) (withAnswer (seen .passage .round) (seen .message .source) f);
-      visit = seen .visit;
-      message = noMessage;
-      objects = seen .objects;
-    }
+    leftMessage
+    (leftPassage
+    (atClock seen clock)
+    (withRound (seen .passage) (withAnswer (seen .passage .round) (seen .message .source) f)))
+    noMessage
 
 abbrev pub answerDone : ℕ → ℕ → ℕ → ℕ → Seen → Decision
 answerDone m n received q seen =
@@ -268,14 +251,7 @@ deliverOf m seen = deliverBodyOf (seen .message .body) m seen
 -- ---- 12. drop c=message: it is lost. Acts at no site.
 
 abbrev pub lost : Seen → Seen
-lost seen =
-    record {
-      site = seen .site;
-      passage = seen .passage;
-      visit = seen .visit;
-      message = noMessage;
-      objects = seen .objects;
-    }
+lost seen = leftMessage seen noMessage
 
 abbrev pub dropDone : ℕ → Seen → Decision
 dropDone m seen =

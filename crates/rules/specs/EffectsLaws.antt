@@ -19,7 +19,7 @@ use Rattle.rules.specs.Answers.{isAccepted, answerValue, firstOf, settle
 use Rattle.rules.specs.AnswersLaws.{Fine, accepted-fine, accepted-value, settle-accepted}
 use Rattle.rules.specs.LoopsLaws.{not-false, either}
 use Rattle.rules.specs.Parts.{clockTo}
-use Rattle.rules.specs.Machine.{lookOf, placesOf, seenOf, remains, decideOf, stored, headOf, turnsUpTo, stepInRangeOf, stepOf}
+use Rattle.rules.specs.Machine.{lookOf, placesOf, seenOf, decideOf, stored, headOf, turnsUpTo, stepInRangeOf, stepOf, foundOf}
 use Rattle.rules.specs.StoredLaws.{Sized, Placed, visit-place-same, site-after-stored, passage-after-stored, visit-after-stored, message-after-stored, site-after-stored-other, passage-after-stored-other, visit-after-stored-other, message-after-stored-other}
 use Rattle.rules.specs.StoredObjects.{seen-object, object-after-stored, object-after-stored-other}
 use Rattle.rules.specs.RangesLaws.{placed-places}
@@ -105,7 +105,7 @@ out-of-range-stays t step e = rw e
 -- looking at these places, deciding and storing
 abbrev headAt : Tables → Step → Places → Outcome
 headAt t step at =
-    let d : Decision = decideOf step (at .message) (remains t (at .slot)) (seenOf t at) in
+    let d : Decision = decideOf step (foundOf t at) (seenOf t at) in
     record { answer = d .answer; tables = stored t at (d .left) }
 
 head-at-places : (t : Tables) (step : Step) → headOf t step ≡ headAt t step (placesOf t (lookOf step))
@@ -121,7 +121,7 @@ accepted-head t step f a = flat-head t step f (accepted-in-range t step a) ∙ h
 pub accepted-decided :
     (t : Tables) (step : Step) (v : ℕ) → lookOf step .trip ≡ Trip.Nowhere → stepOf t step .answer ≡ Answer.Accepted v
     → let at : Places = placesOf t (lookOf step) in
-    decideOf step (at .message) (remains t (at .slot)) (seenOf t at) .answer ≡ Answer.Accepted v
+    decideOf step (foundOf t at) (seenOf t at) .answer ≡ Answer.Accepted v
 accepted-decided t step v f a = sym (ap (λ (o : Outcome). o .answer) (accepted-head t step f (ap isAccepted a))) ∙ a
 
 -- every place but the step's own is as it was, whether it was accepted or refused
@@ -158,7 +158,7 @@ pub done-at :
     → stepOf t step .answer ≡ Answer.Accepted v
     → placesOf t (lookOf step) ≡ at
     → let seen : Seen = seenOf t at in
-    decideOf step (at .message) (remains t (at .slot)) seen
+    decideOf step (foundOf t at) seen
     ≡ settleOf (record { answer = firstOf (checks seen) (result seen); left = left seen }) seen
     → Done t (stepOf t step .tables) v at (checks (seenOf t at)) (result (seenOf t at)) (left (seenOf t at))
 done-at t step v at checks result left f z a p decides =

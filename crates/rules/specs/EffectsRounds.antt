@@ -9,7 +9,7 @@ use mathlib.Core.List.{List, [], _∷_}
 use lib.Dec.{eqb}
 use lib.ListN.{getD}
 use borrow.Author.Tests.{leb-false, ltb-false, eqb-true, eqb-false}
-use Rattle.rules.specs.Types.{Object, Kind, Phase, Round, Status, Passage, Visit, Told, Body, Tables, Step, Refusal, Answer, Check, MailAt, Look, Places, Seen}
+use Rattle.rules.specs.Types.{Object, Kind, Phase, Round, Status, Passage, Visit, Told, Body, Tables, Step, Refusal, Answer, Check, MailAt, Look, Places, Seen, Found}
 use Rattle.rules.specs.Limits.{countMost}
 use Rattle.rules.specs.LoopsLaws.{or-left, not-false, either, every-at}
 use Rattle.rules.specs.Tables.{pastObject, siteAt, passageAt, visitAt, bankAt, slotOf}
@@ -50,7 +50,7 @@ open-effects :
     (t : Tables) (step : Step) (h : ℕ) (k : Kind) (bad : Bool) (v : ℕ) → lookOf step ≡ looksHome MailAt.Nowhere h
     → Sized t
     → stepOf t step .answer ≡ Answer.Accepted v
-    → ((place : ℕ) (rest : Bool) (seen : Seen) → decideOf step place rest seen ≡ openOf h k bad (not (opens k (seen .passage .status))) seen)
+    → ((found : Found) (seen : Seen) → decideOf step found seen ≡ openOf h k bad (not (opens k (seen .passage .status))) seen)
     → (bad ≡ false → badHandle h ≡ false)
     → Opened t (stepOf t step .tables) h (slotOf h) (passageAt t (slotOf h)) k v
 unfolding openOf
@@ -58,7 +58,7 @@ open-effects t step h k bad v look z a decides handle =
     let at = ap (placesOf t) look ∙ home-places t MailAt.Nowhere h (accepted-in-range t step (ap isAccepted a)) in
     let d =
     done-at t step v _ (λ seen. openChecks h bad (not (opens k (seen .passage .status))) seen) (λ seen. seen .passage .round .number + 1)
-    (λ seen. opened k (nextClock (seen .site)) seen) (ap (λ (l : Look). l .trip) look) z a at (decides _ _ _) in
+    (λ seen. opened k (nextClock (seen .site)) seen) (ap (λ (l : Look). l .trip) look) z a at (decides _ _) in
     let w : v ≡ passageAt t (slotOf h) .round .number + 1 = d .value in
     record {
       names = in-use h _ (handle (d .fine .fields)) (d .fine .found);
@@ -80,7 +80,7 @@ module _ (t : Tables) (h v : ℕ) (z : Sized t) where
   unfolding decideOf refreshOf
   refresh-effects q r a =
       open-effects t (Step.Refresh h q r) h (Kind.Refresh q r) (badHandle h || badTimes q r) v refl z a
-      (λ place rest seen. refl)
+      (λ found seen. refl)
       (or-left (badHandle h) (badTimes q r))
 
   pub terminate-effects :
@@ -88,14 +88,14 @@ module _ (t : Tables) (h v : ℕ) (z : Sized t) where
       → Opened t (stepOf t (Step.Terminate h) .tables) h (slotOf h) (passageAt t (slotOf h)) Kind.Terminate v
   unfolding decideOf terminateOf
   terminate-effects a =
-      open-effects t (Step.Terminate h) h Kind.Terminate (badHandle h) v refl z a (λ place rest seen. refl) (λ e. e)
+      open-effects t (Step.Terminate h) h Kind.Terminate (badHandle h) v refl z a (λ found seen. refl) (λ e. e)
 
   pub prepare-effects :
       stepOf t (Step.Prepare h) .answer ≡ Answer.Accepted v
       → Opened t (stepOf t (Step.Prepare h) .tables) h (slotOf h) (passageAt t (slotOf h)) Kind.Prepare v
   unfolding decideOf prepareOf
   prepare-effects a =
-      open-effects t (Step.Prepare h) h Kind.Prepare (badHandle h) v refl z a (λ place rest seen. refl) (λ e. e)
+      open-effects t (Step.Prepare h) h Kind.Prepare (badHandle h) v refl z a (λ found seen. refl) (λ e. e)
 
 -- ---- 7. ask, 9. tell: a message from home goes to another site
 

@@ -2,7 +2,7 @@
 use Prim.Native.Nat.{ℕ, zero, suc, _+_, _%_, min}
 use mathlib.Core.Bool.{Bool, cond, _&&_, _||_, not}
 use lib.Dec.{eqb}
-use Rattle.rules.specs.Types.{Passage, Body, Message, Tables, Step, Refusal, Answer, MailAt, SlotAt, SiteAt, Trip, Look, Places, Seen, Decision, Outcome}
+use Rattle.rules.specs.Types.{Passage, Body, Message, Tables, Step, Refusal, Answer, MailAt, SlotAt, SiteAt, Trip, Look, Places, Found, Seen, Decision, Outcome}
 use Rattle.rules.specs.Limits.{messageMost}
 use Rattle.rules.specs.Loops.{oneIf, someUpTo, firstUpTo}
 use Rattle.rules.specs.Tables.{siteAt, passageAt, visitAt, messageAt, bankAt, putSite, putPassage, putVisit, putMessage, putBank, objectSite, slotOf}
@@ -116,25 +116,29 @@ unfoldable pub remains : Tables → ℕ → Bool
 remains t p =
     someUpTo (λ s. visitAt t s p .there) 8 || someUpTo (λ m. isMessageOf p (messageAt t m)) 32
 
+-- the place of a new message, and whether anything of the passage slot remains
+abbrev pub foundOf : Tables → Places → Found
+foundOf t at = record { place = at .message; remains = remains t (at .slot) }
+
 -- ---- deciding
 
-unfoldable pub decideOf : Step → ℕ → Bool → Seen → Decision
-decideOf (Step.Tick site n) place rest seen = tickOf site n seen
-decideOf (Step.Begin home slot q r) place rest seen = beginOf home slot q r seen
-decideOf (Step.Invoke h site write object value) place rest seen = invokeOf h site write object value place seen
-decideOf (Step.Refresh h q r) place rest seen = refreshOf h q r seen
-decideOf (Step.Terminate h) place rest seen = terminateOf h seen
-decideOf (Step.Prepare h) place rest seen = prepareOf h seen
-decideOf (Step.Ask h site) place rest seen = askOf h site place seen
-decideOf (Step.Close h) place rest seen = closeOf h seen
-decideOf (Step.Tell h site) place rest seen = tellOf h site place seen
-decideOf (Step.Abort h) place rest seen = abortOf h seen
-decideOf (Step.Deliver m) place rest seen = deliverOf m seen
-decideOf (Step.Drop m) place rest seen = dropOf m seen
-decideOf (Step.Sweep site) place rest seen = sweepOf site seen
-decideOf (Step.Crash site) place rest seen = crashOf site seen
-decideOf (Step.Recover site) place rest seen = recoverOf site seen
-decideOf (Step.Retire h) place rest seen = retireOf h rest seen
+unfoldable pub decideOf : Step → Found → Seen → Decision
+decideOf (Step.Tick site n) found seen = tickOf site n seen
+decideOf (Step.Begin home slot q r) found seen = beginOf home slot q r seen
+decideOf (Step.Invoke h site write object value) found seen = invokeOf h site write object value (found .place) seen
+decideOf (Step.Refresh h q r) found seen = refreshOf h q r seen
+decideOf (Step.Terminate h) found seen = terminateOf h seen
+decideOf (Step.Prepare h) found seen = prepareOf h seen
+decideOf (Step.Ask h site) found seen = askOf h site (found .place) seen
+decideOf (Step.Close h) found seen = closeOf h seen
+decideOf (Step.Tell h site) found seen = tellOf h site (found .place) seen
+decideOf (Step.Abort h) found seen = abortOf h seen
+decideOf (Step.Deliver m) found seen = deliverOf m seen
+decideOf (Step.Drop m) found seen = dropOf m seen
+decideOf (Step.Sweep site) found seen = sweepOf site seen
+decideOf (Step.Crash site) found seen = crashOf site seen
+decideOf (Step.Recover site) found seen = recoverOf site seen
+decideOf (Step.Retire h) found seen = retireOf h (found .remains) seen
 
 -- ---- storing
 
@@ -157,7 +161,7 @@ stored t at left = putMessage (storedSlot t at left) (at .message) (left .messag
 unfoldable pub headOf : Tables → Step → Outcome
 headOf t step =
     let at : Places = placesOf t (lookOf step) in
-    let d : Decision = decideOf step (at .message) (remains t (at .slot)) (seenOf t at) in
+    let d : Decision = decideOf step (foundOf t at) (seenOf t at) in
     record { answer = d .answer; tables = stored t at (d .left) }
 
 -- ---- the sixteen slots of a sweep and of a crash

@@ -5,7 +5,7 @@ use mathlib.Core.List.{List, [], _∷_}
 use lib.Bits.{bitOr}
 use lib.Dec.{eqb}
 use lib.ListN.{getD, set, replicate}
-use Rattle.rules.specs.Types.{Site, Holder, Object, Figures, Kind, Phase, Round, Status, Passage, Visit, Call, Asked, Told, Body, Message}
+use Rattle.rules.specs.Types.{Site, Holder, Object, Figures, Kind, Phase, Round, Status, Passage, Visit, Call, Asked, Told, Body, Message, Seen}
 use Rattle.rules.specs.Loops.{oneIf, everyUpTo, sumUpTo, mostUpTo}
 use Rattle.rules.specs.Tables.{pastObject, pastFigures, noCounts, noFigures, noVisit}
 
@@ -13,6 +13,9 @@ use Rattle.rules.specs.Tables.{pastObject, pastFigures, noCounts, noFigu
 
 abbrev pub clockTo : Site → ℕ → Site
 clockTo s c = record { clock = c; up = s .up }
+
+abbrev pub withUp : Site → Bool → Site
+withUp s up = record { clock = s .clock; up = up }
 
 -- "any other by 1"
 abbrev pub nextClock : Site → ℕ
@@ -78,6 +81,9 @@ isPhaseTwo Phase.Two = true
 abbrev pub withStatus : Passage → Status → Passage
 withStatus p s = record { status = s; home = p .home; round = p .round; generation = p .generation }
 
+abbrev pub withHome : Passage → ℕ → Passage
+withHome p home = record { status = p .status; home = home; round = p .round; generation = p .generation }
+
 abbrev pub withRound : Passage → Round → Passage
 withRound p r = record { status = p .status; home = p .home; round = r; generation = p .generation }
 
@@ -93,13 +99,7 @@ withPhase r ph =
 
 -- "status aborted, round phase none"
 abbrev pub abortedPassage : Passage → Passage
-abortedPassage p =
-    record {
-      status = Status.Aborted;
-      home = p .home;
-      round = withPhase (p .round) Phase.None;
-      generation = p .generation;
-    }
+abortedPassage p = withRound (withStatus p Status.Aborted) (withPhase (p .round) Phase.None)
 
 -- ---- visits
 
@@ -381,3 +381,29 @@ answerMessage v source home handle stamp =
       stamp = stamp;
       sent = v .sent;
     }
+
+-- ---- what was seen, with one record changed
+
+abbrev pub leftSite : Seen → Site → Seen
+leftSite seen s =
+    record { site = s; passage = seen .passage; visit = seen .visit; message = seen .message; objects = seen .objects }
+
+abbrev pub leftPassage : Seen → Passage → Seen
+leftPassage seen p =
+    record { site = seen .site; passage = p; visit = seen .visit; message = seen .message; objects = seen .objects }
+
+abbrev pub leftVisit : Seen → Visit → Seen
+leftVisit seen v =
+    record { site = seen .site; passage = seen .passage; visit = v; message = seen .message; objects = seen .objects }
+
+abbrev pub leftMessage : Seen → Message → Seen
+leftMessage seen m =
+    record { site = seen .site; passage = seen .passage; visit = seen .visit; message = m; objects = seen .objects }
+
+abbrev pub leftObjects : Seen → List Object → Seen
+leftObjects seen os =
+    record { site = seen .site; passage = seen .passage; visit = seen .visit; message = seen .message; objects = os }
+
+-- "first moves its clock"
+abbrev pub atClock : Seen → ℕ → Seen
+atClock seen clock = leftSite seen (clockTo (seen .site) clock)

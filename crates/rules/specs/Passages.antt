@@ -6,9 +6,9 @@ use mathlib.Core.List.{List, [], _∷_}
 use lib.Dec.{leb, ltb}
 use Rattle.rules.specs.Types.{Status, Passage, Refusal, Check, Seen, Decision}
 use Rattle.rules.specs.Limits.{slotMost}
-use Rattle.rules.specs.Tables.{handleOf, freeSlot, noRound}
+use Rattle.rules.specs.Tables.{handleOf, freeSlot}
 use Rattle.rules.specs.Answers.{refuse, firstOf, settleOf}
-use Rattle.rules.specs.Parts.{clockTo, nextClock, isFree, isRunning, isOver, abortedPassage, whereThere, quieted, newVisit}
+use Rattle.rules.specs.Parts.{nextClock, isFree, isRunning, isOver, abortedPassage, whereThere, quieted, newVisit, withHome, leftPassage, leftVisit, atClock, withStatus}
 use Rattle.rules.specs.Checks.{badSite, badHandle, badTimes, noPassage, siteDown, clockFull}
 
 -- ---- 2. begin a=home, b=slot, u=Q, v=R, Q ≤ R. "Makes an active passage and its home visit, round 0, no calls. Value: handle."
@@ -22,19 +22,12 @@ beginChecks home slot q r seen =
     ∷ []
 
 abbrev pub begunPassage : ℕ → Passage → Passage
-begunPassage home p =
-    record { status = Status.Active; home = home; round = noRound; generation = p .generation }
+begunPassage home p = withHome (withStatus (freeSlot (p .generation)) Status.Active) home
 
 -- what a begin leaves at this clock
 abbrev pub begun : ℕ → ℕ → ℕ → ℕ → Seen → Seen
 begun home q r clock seen =
-    record {
-      site = clockTo (seen .site) clock;
-      passage = begunPassage home (seen .passage);
-      visit = newVisit q r 0;
-      message = seen .message;
-      objects = seen .objects;
-    }
+    leftVisit (leftPassage (atClock seen clock) (begunPassage home (seen .passage))) (newVisit q r 0)
 
 abbrev pub beginDone : ℕ → ℕ → ℕ → ℕ → Seen → Decision
 beginDone home slot q r seen =
@@ -59,13 +52,9 @@ abortChecks h seen =
 -- what an abort leaves at this clock
 abbrev pub aborted : ℕ → Seen → Seen
 aborted clock seen =
-    record {
-      site = clockTo (seen .site) clock;
-      passage = abortedPassage (seen .passage);
-      visit = whereThere (seen .visit) (quieted (seen .visit) clock false (seen .visit .dead));
-      message = seen .message;
-      objects = seen .objects;
-    }
+    leftVisit
+    (leftPassage (atClock seen clock) (abortedPassage (seen .passage)))
+    (whereThere (seen .visit) (quieted (seen .visit) clock false (seen .visit .dead)))
 
 abbrev pub abortDone : ℕ → Seen → Decision
 abortDone h seen =
@@ -91,14 +80,7 @@ abbrev pub nextGeneration : ℕ → ℕ
 nextGeneration g = (g + 1) % 256
 
 abbrev pub retired : Seen → Seen
-retired seen =
-    record {
-      site = seen .site;
-      passage = freeSlot (nextGeneration (seen .passage .generation));
-      visit = seen .visit;
-      message = seen .message;
-      objects = seen .objects;
-    }
+retired seen = leftPassage seen (freeSlot (nextGeneration (seen .passage .generation)))
 
 abbrev pub retireDone : ℕ → Bool → Seen → Decision
 retireDone h remains seen =

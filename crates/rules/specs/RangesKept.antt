@@ -9,7 +9,7 @@ use mathlib.Core.List.{List, [], _∷_}
 use lib.Dec.{leb, ltb, eqb}
 use lib.ListN.{getD}
 use borrow.Author.Tests.{leb-true, le-leb, ltb-false}
-use Rattle.rules.specs.Types.{Site, Kind, Phase, Call, Asked, Told, Body, Tables, Step, Reading, Refusal, Answer, Check, Trip, Places, Seen, Outcome}
+use Rattle.rules.specs.Types.{Site, Kind, Phase, Call, Asked, Told, Body, Tables, Step, Reading, Refusal, Answer, Check, Trip, Places, Seen, Outcome, Found}
 use Rattle.rules.specs.Limits.{clockMost, timeMost, widthMost, countMost}
 use Rattle.rules.specs.Loops.{everyUpTo}
 use Rattle.rules.specs.LoopsLaws.{or-right, not-false, either, cond-keeps}
@@ -17,14 +17,14 @@ use Rattle.rules.specs.Tables.{pastObject, start}
 use Rattle.rules.specs.Ranges.{countsInRange, kindInRange, phaseFits, roundInRange, askedInRange, toldInRange, bodyInRange, inRange}
 use Rattle.rules.specs.Answers.{isAccepted, firstOf, settleOf}
 use Rattle.rules.specs.AnswersLaws.{Fine, holdsOf, accepted-fine}
-use Rattle.rules.specs.Parts.{clockTo, nextClock, countSent, restored, eachOf, openedRound, askedOf, askedVisit}
+use Rattle.rules.specs.Parts.{clockTo, nextClock, countSent, restored, eachOf, openedRound, askedOf, askedVisit, withUp, leftSite}
 use Rattle.rules.specs.Checks.{badSite, badHandle, badTimes}
-use Rattle.rules.specs.Stations.{leftSite, tickOf, sweepOf, sweptSlot, crashOf, crashedSlot, recoverOf}
+use Rattle.rules.specs.Stations.{tickOf, sweepOf, sweptSlot, crashOf, crashedSlot, recoverOf}
 use Rattle.rules.specs.Passages.{beginOf, abortOf, retireOf}
 use Rattle.rules.specs.Rounds.{openedVisit, openOf, refreshOf, terminateOf, prepareOf, sentOut, askOf, closeOf, tellOf}
 use Rattle.rules.specs.Calls.{callSite, callOf, invokeOf, mailClock, mailSlot, emptyOf, calledVisit, calledObject, callDone, deliverCallOf, deliverPhaseOneOf, deliverPhaseTwoOf, deliverAnswerOf, deliverBodyOf, dropOf}
 use Rattle.rules.specs.FineLaws.{invoke-count, call-count, open-count}
-use Rattle.rules.specs.Machine.{lookOf, placesOf, seenOf, remains, decideOf, stored, headOf, turnSeen, turnOf, turnsUpTo, turnCount, stepInRangeOf, stepOf}
+use Rattle.rules.specs.Machine.{lookOf, placesOf, seenOf, remains, decideOf, stored, headOf, turnSeen, turnOf, turnsUpTo, turnCount, stepInRangeOf, stepOf, foundOf}
 use Rattle.rules.specs.StoredLaws.{Placed, turn-stored}
 use Rattle.rules.specs.Record.{stepOfRecord, readingOf, recordInRangeOf, stepRecordOf}
 use Rattle.rules.specs.Runs.{runOf, runRecordsOf}
@@ -189,24 +189,24 @@ module _ (seen : Seen) (b : SeenFits seen) where
       both {a = leb n countMost} e λ _ r.
       fits-after-answer m n received q (leb-true _ _ r) (leb-true _ _ k)
 
-  fits-after-decided : (step : Step) (place : ℕ) (rest : Bool) → SeenFits (decideOf step place rest seen .left)
+  fits-after-decided : (step : Step) (found : Found) → SeenFits (decideOf step found seen .left)
   unfolding decideOf tickOf sweepOf crashOf recoverOf terminateOf prepareOf
-  fits-after-decided (Step.Tick site n) place rest = fits-after-clock _ _ (clockTo (seen .site) (seen .site .clock + n)) refl
-  fits-after-decided (Step.Begin home slot q r) place rest = fits-after-begin home slot q r
-  fits-after-decided (Step.Invoke h site write object value) place rest = fits-after-invoke h site write object value place
-  fits-after-decided (Step.Refresh h q r) place rest = fits-after-refresh h q r
-  fits-after-decided (Step.Terminate h) place rest = fits-after-open h Kind.Terminate _ _ refl (λ e. refl)
-  fits-after-decided (Step.Prepare h) place rest = fits-after-open h Kind.Prepare _ _ refl (λ e. refl)
-  fits-after-decided (Step.Ask h site) place rest = fits-after-ask h site place
-  fits-after-decided (Step.Close h) place rest = fits-after-close h
-  fits-after-decided (Step.Tell h site) place rest = fits-after-tell h site place
-  fits-after-decided (Step.Abort h) place rest = fits-after-abort h
-  fits-after-decided (Step.Deliver m) place rest = fits-after-deliver (seen .message .body) m (b .message .body)
-  fits-after-decided (Step.Drop m) place rest = fits-after-drop m
-  fits-after-decided (Step.Sweep site) place rest = fits-after-clock _ _ (clockTo (seen .site) (nextClock (seen .site))) refl
-  fits-after-decided (Step.Crash site) place rest = fits-after-clock _ _ (record { clock = nextClock (seen .site); up = false }) refl
-  fits-after-decided (Step.Recover site) place rest = fits-after-clock _ _ (record { clock = nextClock (seen .site); up = true }) refl
-  fits-after-decided (Step.Retire h) place rest = fits-after-retire h rest
+  fits-after-decided (Step.Tick site n) found = fits-after-clock _ _ (clockTo (seen .site) (seen .site .clock + n)) refl
+  fits-after-decided (Step.Begin home slot q r) found = fits-after-begin home slot q r
+  fits-after-decided (Step.Invoke h site write object value) found = fits-after-invoke h site write object value (found .place)
+  fits-after-decided (Step.Refresh h q r) found = fits-after-refresh h q r
+  fits-after-decided (Step.Terminate h) found = fits-after-open h Kind.Terminate _ _ refl (λ e. refl)
+  fits-after-decided (Step.Prepare h) found = fits-after-open h Kind.Prepare _ _ refl (λ e. refl)
+  fits-after-decided (Step.Ask h site) found = fits-after-ask h site (found .place)
+  fits-after-decided (Step.Close h) found = fits-after-close h
+  fits-after-decided (Step.Tell h site) found = fits-after-tell h site (found .place)
+  fits-after-decided (Step.Abort h) found = fits-after-abort h
+  fits-after-decided (Step.Deliver m) found = fits-after-deliver (seen .message .body) m (b .message .body)
+  fits-after-decided (Step.Drop m) found = fits-after-drop m
+  fits-after-decided (Step.Sweep site) found = fits-after-clock _ _ (clockTo (seen .site) (nextClock (seen .site))) refl
+  fits-after-decided (Step.Crash site) found = fits-after-clock _ _ (withUp (clockTo (seen .site) (nextClock (seen .site))) false) refl
+  fits-after-decided (Step.Recover site) found = fits-after-clock _ _ (withUp (clockTo (seen .site) (nextClock (seen .site))) true) refl
+  fits-after-decided (Step.Retire h) found = fits-after-retire h (found .remains)
 
   fits-after-swept : (site slot : ℕ) → SeenFits (sweptSlot site slot seen)
   unfolding sweptSlot
@@ -223,10 +223,10 @@ module _ (seen : Seen) (b : SeenFits seen) where
 -- ---- what is seen stays in range
 
 pub decided-in-range :
-    (step : Step) (place : ℕ) (rest : Bool) (seen : Seen) → SeenInRange seen
-    → SeenInRange (decideOf step place rest seen .left)
-decided-in-range step place rest seen r =
-    seen-makes _ (fits-after-decided seen (seen-says seen r) step place rest)
+    (step : Step) (found : Found) (seen : Seen) → SeenInRange seen
+    → SeenInRange (decideOf step found seen .left)
+decided-in-range step found seen r =
+    seen-makes _ (fits-after-decided seen (seen-says seen r) step found)
 
 pub turned-in-range : (trip : Trip) (slot : ℕ) (seen : Seen) → SeenInRange seen → SeenInRange (turnSeen trip slot seen)
 turned-in-range Trip.Nowhere slot seen r = r
@@ -250,8 +250,8 @@ in-range-after-head t step e =
     in-range-after-change
     t
     at
-    (λ seen. decideOf step (at .message) (remains t (at .slot)) seen .left)
-    (decided-in-range step (at .message) (remains t (at .slot)))
+    (λ seen. decideOf step (foundOf t at) seen .left)
+    (decided-in-range step (foundOf t at))
     (placed-places t (lookOf step))
     e
 

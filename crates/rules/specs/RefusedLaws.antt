@@ -4,7 +4,7 @@ use mathlib.Core.Path.{_≡_, refl, sym, ap, _∙_}
 use mathlib.Core.Logic.{⊎-elim}
 use mathlib.Core.Bool.{Bool, false, true≢false}
 use mathlib.Core.List.{List}
-use Rattle.rules.specs.Types.{Tables, Body, Step, Reading, Answer, Trip, Seen, Outcome}
+use Rattle.rules.specs.Types.{Tables, Body, Step, Reading, Answer, Trip, Seen, Outcome, Found}
 use Rattle.rules.specs.Ranges.{inRange}
 use Rattle.rules.specs.Answers.{isAccepted, answerValue}
 use Rattle.rules.specs.AnswersLaws.{settle-refused}
@@ -13,7 +13,7 @@ use Rattle.rules.specs.Stations.{tickDone, tickOf, sweepDone, sweepOf, c
 use Rattle.rules.specs.Passages.{beginDone, beginOf, abortDone, abortOf, retireDone, retireOf}
 use Rattle.rules.specs.Rounds.{openOf, refreshOf, terminateOf, prepareOf, askDone, askOf, closeDone, closeOf, tellDone, tellOf}
 use Rattle.rules.specs.Calls.{invokeDone, invokeOf, emptyDone, emptyOf, callDone, deliverCallOf, phaseOneDone, deliverPhaseOneOf, phaseTwoDone, deliverPhaseTwoOf, answerDone, deliverAnswerOf, deliverBodyOf, dropDone, dropOf}
-use Rattle.rules.specs.Machine.{lookOf, placesOf, seenOf, remains, decideOf, stored, headOf, countOne, turnOf, turnsUpTo, turnCount, stepInRangeOf, stepOf}
+use Rattle.rules.specs.Machine.{lookOf, placesOf, seenOf, decideOf, stored, headOf, countOne, turnOf, turnsUpTo, turnCount, stepInRangeOf, stepOf, foundOf}
 use Rattle.rules.specs.Record.{stepOfRecord, readingOf, recordInRangeOf, stepRecordOf}
 use Rattle.rules.specs.StoredLaws.{stored-seen}
 
@@ -32,26 +32,26 @@ delivered-refused (Body.PhaseTwo n d) m seen e = settle-refused (phaseTwoDone m 
 delivered-refused (Body.Answer n r q) m seen e = settle-refused (answerDone m n r q seen) seen e
 
 pub decided-refused :
-    (step : Step) (place : ℕ) (rest : Bool) (seen : Seen)
-    → isAccepted (decideOf step place rest seen .answer) ≡ false
-    → decideOf step place rest seen .left ≡ seen
+    (step : Step) (found : Found) (seen : Seen)
+    → isAccepted (decideOf step found seen .answer) ≡ false
+    → decideOf step found seen .left ≡ seen
 unfolding decideOf tickOf sweepOf crashOf recoverOf beginOf abortOf retireOf refreshOf terminateOf prepareOf openOf askOf closeOf tellOf invokeOf dropOf
-decided-refused (Step.Tick site n) place rest seen e = settle-refused (tickDone site n seen) seen e
-decided-refused (Step.Begin home slot q r) place rest seen e = settle-refused (beginDone home slot q r seen) seen e
-decided-refused (Step.Invoke h site write object value) place rest seen e = settle-refused (invokeDone h site write object value place seen) seen e
-decided-refused (Step.Refresh h q r) place rest seen e = rw e
-decided-refused (Step.Terminate h) place rest seen e = rw e
-decided-refused (Step.Prepare h) place rest seen e = rw e
-decided-refused (Step.Ask h site) place rest seen e = settle-refused (askDone h site place seen) seen e
-decided-refused (Step.Close h) place rest seen e = settle-refused (closeDone h seen) seen e
-decided-refused (Step.Tell h site) place rest seen e = settle-refused (tellDone h site place seen) seen e
-decided-refused (Step.Abort h) place rest seen e = settle-refused (abortDone h seen) seen e
-decided-refused (Step.Deliver m) place rest seen e = delivered-refused (seen .message .body) m seen e
-decided-refused (Step.Drop m) place rest seen e = settle-refused (dropDone m seen) seen e
-decided-refused (Step.Sweep site) place rest seen e = settle-refused (sweepDone site seen) seen e
-decided-refused (Step.Crash site) place rest seen e = settle-refused (crashDone site seen) seen e
-decided-refused (Step.Recover site) place rest seen e = settle-refused (recoverDone site seen) seen e
-decided-refused (Step.Retire h) place rest seen e = settle-refused (retireDone h rest seen) seen e
+decided-refused (Step.Tick site n) found seen e = settle-refused (tickDone site n seen) seen e
+decided-refused (Step.Begin home slot q r) found seen e = settle-refused (beginDone home slot q r seen) seen e
+decided-refused (Step.Invoke h site write object value) found seen e = settle-refused (invokeDone h site write object value (found .place) seen) seen e
+decided-refused (Step.Refresh h q r) found seen e = rw e
+decided-refused (Step.Terminate h) found seen e = rw e
+decided-refused (Step.Prepare h) found seen e = rw e
+decided-refused (Step.Ask h site) found seen e = settle-refused (askDone h site (found .place) seen) seen e
+decided-refused (Step.Close h) found seen e = settle-refused (closeDone h seen) seen e
+decided-refused (Step.Tell h site) found seen e = settle-refused (tellDone h site (found .place) seen) seen e
+decided-refused (Step.Abort h) found seen e = settle-refused (abortDone h seen) seen e
+decided-refused (Step.Deliver m) found seen e = delivered-refused (seen .message .body) m seen e
+decided-refused (Step.Drop m) found seen e = settle-refused (dropDone m seen) seen e
+decided-refused (Step.Sweep site) found seen e = settle-refused (sweepDone site seen) seen e
+decided-refused (Step.Crash site) found seen e = settle-refused (crashDone site seen) seen e
+decided-refused (Step.Recover site) found seen e = settle-refused (recoverDone site seen) seen e
+decided-refused (Step.Retire h) found seen e = settle-refused (retireDone h (found .remains) seen) seen e
 
 head-refused : (t : Tables) (step : Step) → isAccepted (headOf t step .answer) ≡ false → headOf t step .tables ≡ t
 unfolding headOf
@@ -60,8 +60,7 @@ head-refused t step e =
     (stored t (placesOf t (lookOf step)))
     (decided-refused
     step
-    (placesOf t (lookOf step) .message)
-    (remains t (placesOf t (lookOf step) .slot))
+    (foundOf t (placesOf t (lookOf step)))
     (seenOf t (placesOf t (lookOf step)))
     e)
     ∙ stored-seen t (placesOf t (lookOf step))

@@ -8,7 +8,7 @@ use Rattle.rules.specs.Types.{Object, Kind, Phase, Round, Passage, Visit
 use Rattle.rules.specs.Limits.{countMost}
 use Rattle.rules.specs.Tables.{slotOf}
 use Rattle.rules.specs.Answers.{refuse, firstOf, settleOf}
-use Rattle.rules.specs.Parts.{clockTo, nextClock, isActive, isRunning, isAborted, isPhaseOne, isPhaseTwo, withPhase, whereThere, figuresOf, hasAnswered, withAnswer, openedRound, isClosed, largestQuiesce, answerCount, askedOf, toldOf, askedVisit, askedStatus, toldVisit, toldObjects, toldStatus, plainMessage}
+use Rattle.rules.specs.Parts.{nextClock, isActive, isRunning, isAborted, isPhaseOne, isPhaseTwo, withPhase, whereThere, figuresOf, hasAnswered, withAnswer, openedRound, isClosed, largestQuiesce, answerCount, askedOf, toldOf, askedVisit, askedStatus, toldVisit, toldObjects, toldStatus, plainMessage, leftPassage, leftVisit, leftMessage, leftObjects, atClock, withStatus, withRound}
 use Rattle.rules.specs.Checks.{badSite, badHandle, badTimes, noPassage, siteDown, visitMissing, clockFull, isFull}
 
 -- ---- 4. refresh h, u=Q, v=R. 5. terminate h. 6. prepare h.
@@ -30,23 +30,16 @@ openedVisit k clock seen = askedVisit (askedOf k) (seen .passage .round .number 
 -- the passage with its round open, home's figures kept as its phase 1 part left them, and home answering
 abbrev pub openedPassage : Kind → Passage → Visit → Passage
 openedPassage k p v =
-    record {
-      status = askedStatus (askedOf k) (p .status);
-      home = p .home;
-      round = withAnswer (openedRound (p .round) k) (p .home) (figuresOf v);
-      generation = p .generation;
-    }
+    withRound
+    (withStatus p (askedStatus (askedOf k) (p .status)))
+    (withAnswer (openedRound (p .round) k) (p .home) (figuresOf v))
 
 -- what opening a round leaves at this clock
 abbrev pub opened : Kind → ℕ → Seen → Seen
 opened k clock seen =
-    record {
-      site = clockTo (seen .site) clock;
-      passage = openedPassage k (seen .passage) (openedVisit k clock seen);
-      visit = openedVisit k clock seen;
-      message = seen .message;
-      objects = seen .objects;
-    }
+    leftVisit
+    (leftPassage (atClock seen clock) (openedPassage k (seen .passage) (openedVisit k clock seen)))
+    (openedVisit k clock seen)
 
 abbrev pub openDone : ℕ → Kind → Bool → Bool → Seen → Decision
 openDone h k bad wrong seen =
@@ -93,13 +86,7 @@ askChecks h site seen =
 -- what ask and tell share: a message from home goes into the empty slot, and the clock moves
 abbrev pub sentOut : Body → ℕ → ℕ → ℕ → Seen → Seen
 sentOut body h site clock seen =
-    record {
-      site = clockTo (seen .site) clock;
-      passage = seen .passage;
-      visit = seen .visit;
-      message = plainMessage body (seen .passage .home) site h clock;
-      objects = seen .objects;
-    }
+    leftMessage (atClock seen clock) (plainMessage body (seen .passage .home) site h clock)
 
 -- "Phase 1 carries number, kind and a refresh's new R"
 abbrev pub askBody : Round → Body
@@ -130,13 +117,7 @@ abbrev pub roundTold : Round → Told
 roundTold r = toldOf (r .kind) (largestQuiesce r)
 
 abbrev pub closedPassage : Told → Passage → Passage
-closedPassage told p =
-    record {
-      status = toldStatus told (p .status);
-      home = p .home;
-      round = withPhase (p .round) Phase.Two;
-      generation = p .generation;
-    }
+closedPassage told p = withRound (withStatus p (toldStatus told (p .status))) (withPhase (p .round) Phase.Two)
 
 abbrev pub objectsWhereThere : Visit → List Object → List Object → List Object
 objectsWhereThere v changed os = cond (v .there) changed os
@@ -145,14 +126,11 @@ objectsWhereThere v changed os = cond (v .there) changed os
 -- "a close after the home visit was swept, say": the visit's part, its objects with it, does nothing, and the rest is done
 abbrev pub closed : Told → ℕ → ℕ → Seen → Seen
 closed told slot clock seen =
-    record {
-      site = clockTo (seen .site) clock;
-      passage = closedPassage told (seen .passage);
-      visit = whereThere (seen .visit) (toldVisit told (seen .visit));
-      message = seen .message;
-      objects =
-          objectsWhereThere (seen .visit) (toldObjects told slot (seen .objects)) (seen .objects);
-    }
+    leftObjects
+    (leftVisit
+    (leftPassage (atClock seen clock) (closedPassage told (seen .passage)))
+    (whereThere (seen .visit) (toldVisit told (seen .visit))))
+    (objectsWhereThere (seen .visit) (toldObjects told slot (seen .objects)) (seen .objects))
 
 abbrev pub closeDone : ℕ → Seen → Decision
 closeDone h seen =

@@ -4,23 +4,12 @@ use Prim.Native.Nat.{ℕ, _+_}
 use mathlib.Core.Bool.{Bool, true, false, cond, not, _&&_, _||_}
 use mathlib.Core.List.{List, [], _∷_}
 use lib.Dec.{leb, ltb, eqb}
-use Rattle.rules.specs.Types.{Site, Passage, Visit, Refusal, Check, Seen, Decision}
+use Rattle.rules.specs.Types.{Passage, Visit, Refusal, Check, Seen, Decision}
 use Rattle.rules.specs.Limits.{tickMost}
 use Rattle.rules.specs.Tables.{noVisit}
 use Rattle.rules.specs.Answers.{refuse, firstOf, settleOf}
-use Rattle.rules.specs.Parts.{clockTo, nextClock, isActive, isRunning, abortedPassage, whereThere, quieted, restored, eachOf}
+use Rattle.rules.specs.Parts.{clockTo, nextClock, isActive, isRunning, abortedPassage, whereThere, quieted, restored, eachOf, leftSite, leftPassage, leftVisit, leftObjects, atClock, withUp}
 use Rattle.rules.specs.Checks.{badSite, siteDown, clockFull}
-
--- what was seen, with another site
-abbrev pub leftSite : Seen → Site → Seen
-leftSite seen s =
-    record {
-      site = s;
-      passage = seen .passage;
-      visit = seen .visit;
-      message = seen .message;
-      objects = seen .objects;
-    }
 
 -- ---- 1. tick a=site, u=n, 1..1,000,000. Value: the clock.
 
@@ -34,7 +23,7 @@ abbrev pub tickDone : ℕ → ℕ → Seen → Decision
 tickDone site n seen =
     record {
       answer = firstOf (tickChecks site n seen) (seen .site .clock + n);
-      left = leftSite seen (clockTo (seen .site) (seen .site .clock + n));
+      left = atClock seen (seen .site .clock + n);
     }
 
 unfoldable pub tickOf : ℕ → ℕ → Seen → Decision
@@ -50,7 +39,7 @@ abbrev pub sweepDone : ℕ → Seen → Decision
 sweepDone site seen =
     record {
       answer = firstOf (sweepChecks site seen) 0;
-      left = leftSite seen (clockTo (seen .site) (nextClock (seen .site)));
+      left = atClock seen (nextClock (seen .site));
     }
 
 unfoldable pub sweepOf : ℕ → Seen → Decision
@@ -70,13 +59,9 @@ unfoldable pub sweptSlot : ℕ → ℕ → Seen → Seen
 sweptSlot site slot seen =
     cond
     (isSwept seen)
-    (record {
-      site = seen .site;
-      passage = sweptPassage site (seen .passage);
-      visit = noVisit;
-      message = seen .message;
-      objects = eachOf (restored slot) (seen .objects);
-    })
+    (leftObjects
+    (leftVisit (leftPassage seen (sweptPassage site (seen .passage))) noVisit)
+    (eachOf (restored slot) (seen .objects)))
     seen
 
 -- ---- 14. crash a. First the clock, and the site is down; then, slot by slot, every visit there. "Clock and tables survive."
@@ -89,7 +74,7 @@ abbrev pub crashDone : ℕ → Seen → Decision
 crashDone site seen =
     record {
       answer = firstOf (crashChecks site seen) 0;
-      left = leftSite seen (record { clock = nextClock (seen .site); up = false });
+      left = leftSite seen (withUp (clockTo (seen .site) (nextClock (seen .site))) false);
     }
 
 unfoldable pub crashOf : ℕ → Seen → Decision
@@ -110,16 +95,9 @@ crashedPassage homeless p = cond homeless (abortedPassage p) p
 -- one slot of a crash
 unfoldable pub crashedSlot : ℕ → ℕ → Seen → Seen
 crashedSlot site slot seen =
-    record {
-      site = seen .site;
-      passage = crashedPassage (losesHome site (seen .passage)) (seen .passage);
-      visit =
-          whereThere
-          (seen .visit)
-          (crashedVisit (losesHome site (seen .passage)) (seen .site .clock) (seen .visit));
-      message = seen .message;
-      objects = seen .objects;
-    }
+    leftVisit
+    (leftPassage seen (crashedPassage (losesHome site (seen .passage)) (seen .passage)))
+    (whereThere (seen .visit) (crashedVisit (losesHome site (seen .passage)) (seen .site .clock) (seen .visit)))
 
 -- ---- 15. recover a: up. "4: acting site down (not for recover)"; "5: recover: site up"
 
@@ -133,7 +111,7 @@ abbrev pub recoverDone : ℕ → Seen → Decision
 recoverDone site seen =
     record {
       answer = firstOf (recoverChecks site seen) 0;
-      left = leftSite seen (record { clock = nextClock (seen .site); up = true });
+      left = leftSite seen (withUp (clockTo (seen .site) (nextClock (seen .site))) true);
     }
 
 unfoldable pub recoverOf : ℕ → Seen → Decision

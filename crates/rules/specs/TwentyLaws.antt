@@ -6,7 +6,7 @@ use mathlib.Core.Logic.{⊎-elim}
 use mathlib.Core.Bool.{Bool, true, false, not, _&&_}
 use mathlib.Core.List.{List, [], _∷_}
 use lib.Dec.{eqb}
-use Rattle.rules.specs.Types.{Tables, Body, Step, Reading, Answer, Check, Trip, Seen, Outcome}
+use Rattle.rules.specs.Types.{Tables, Body, Step, Reading, Answer, Check, Trip, Seen, Outcome, Found}
 use Rattle.rules.specs.Ranges.{inRange}
 use Rattle.rules.specs.Answers.{refusalNumber, answerNumber, firstOf}
 use Rattle.rules.specs.LoopsLaws.{and-left, and-right, not-true, either}
@@ -42,24 +42,24 @@ delivered-not-twenty (Body.PhaseOne n a) m seen = first-not-twenty _ _ refl
 delivered-not-twenty (Body.PhaseTwo n d) m seen = first-not-twenty _ _ refl
 delivered-not-twenty (Body.Answer n r q) m seen = first-not-twenty _ _ refl
 
-decided-not-twenty : (step : Step) (place : ℕ) (rest : Bool) (seen : Seen) → isTwenty (decideOf step place rest seen .answer) ≡ false
+decided-not-twenty : (step : Step) (found : Found) (seen : Seen) → isTwenty (decideOf step found seen .answer) ≡ false
 unfolding decideOf tickOf sweepOf crashOf recoverOf beginOf abortOf retireOf refreshOf terminateOf prepareOf openOf askOf closeOf tellOf invokeOf dropOf
-decided-not-twenty (Step.Tick site n) place rest seen = first-not-twenty _ _ refl
-decided-not-twenty (Step.Begin home slot q r) place rest seen = first-not-twenty _ _ refl
-decided-not-twenty (Step.Invoke h site write object value) place rest seen = first-not-twenty _ _ refl
-decided-not-twenty (Step.Refresh h q r) place rest seen = first-not-twenty _ _ refl
-decided-not-twenty (Step.Terminate h) place rest seen = first-not-twenty _ _ refl
-decided-not-twenty (Step.Prepare h) place rest seen = first-not-twenty _ _ refl
-decided-not-twenty (Step.Ask h site) place rest seen = first-not-twenty _ _ refl
-decided-not-twenty (Step.Close h) place rest seen = first-not-twenty _ _ refl
-decided-not-twenty (Step.Tell h site) place rest seen = first-not-twenty _ _ refl
-decided-not-twenty (Step.Abort h) place rest seen = first-not-twenty _ _ refl
-decided-not-twenty (Step.Deliver m) place rest seen = delivered-not-twenty (seen .message .body) m seen
-decided-not-twenty (Step.Drop m) place rest seen = first-not-twenty _ _ refl
-decided-not-twenty (Step.Sweep site) place rest seen = first-not-twenty _ _ refl
-decided-not-twenty (Step.Crash site) place rest seen = first-not-twenty _ _ refl
-decided-not-twenty (Step.Recover site) place rest seen = first-not-twenty _ _ refl
-decided-not-twenty (Step.Retire h) place rest seen = first-not-twenty _ _ refl
+decided-not-twenty (Step.Tick site n) found seen = first-not-twenty _ _ refl
+decided-not-twenty (Step.Begin home slot q r) found seen = first-not-twenty _ _ refl
+decided-not-twenty (Step.Invoke h site write object value) found seen = first-not-twenty _ _ refl
+decided-not-twenty (Step.Refresh h q r) found seen = first-not-twenty _ _ refl
+decided-not-twenty (Step.Terminate h) found seen = first-not-twenty _ _ refl
+decided-not-twenty (Step.Prepare h) found seen = first-not-twenty _ _ refl
+decided-not-twenty (Step.Ask h site) found seen = first-not-twenty _ _ refl
+decided-not-twenty (Step.Close h) found seen = first-not-twenty _ _ refl
+decided-not-twenty (Step.Tell h site) found seen = first-not-twenty _ _ refl
+decided-not-twenty (Step.Abort h) found seen = first-not-twenty _ _ refl
+decided-not-twenty (Step.Deliver m) found seen = delivered-not-twenty (seen .message .body) m seen
+decided-not-twenty (Step.Drop m) found seen = first-not-twenty _ _ refl
+decided-not-twenty (Step.Sweep site) found seen = first-not-twenty _ _ refl
+decided-not-twenty (Step.Crash site) found seen = first-not-twenty _ _ refl
+decided-not-twenty (Step.Recover site) found seen = first-not-twenty _ _ refl
+decided-not-twenty (Step.Retire h) found seen = first-not-twenty _ _ refl
 
 number-after-count : (a : Answer) (b : Bool) → answerNumber (countOne a b) ≡ answerNumber a
 number-after-count (Answer.Accepted v) b = refl
@@ -80,7 +80,7 @@ in-range-not-twenty : (t : Tables) (step : Step) → isTwenty (stepInRangeOf t s
 unfolding stepInRangeOf headOf
 in-range-not-twenty t step =
     rw (number-after-turns (lookOf step .trip) (headOf t step) (turnCount (lookOf step .trip) (headOf t step .answer)))
-    (decided-not-twenty step _ _ _)
+    (decided-not-twenty step _ _)
 
 reading-not-twenty : (t : Tables) (r : Reading) → isTwenty (readingOf t r .answer) ≡ false
 reading-not-twenty t Reading.Nothing = refl

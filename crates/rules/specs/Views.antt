@@ -5,7 +5,7 @@ use mathlib.Core.Logic.{⊎-elim}
 use mathlib.Core.Bool.{Bool, true, false, cond, not, _||_, true≢false}
 use mathlib.Core.List.{List}
 use lib.Dec.{eqb}
-use Rattle.rules.specs.Types.{Passage, Call, Asked, Told, Body, Step, Check, SlotAt, Trip, Seen}
+use Rattle.rules.specs.Types.{Passage, Call, Asked, Told, Body, Step, Check, SlotAt, Trip, Seen, Found}
 use Rattle.rules.specs.Tables.{generationOf}
 use Rattle.rules.specs.Parts.{isFree}
 use Rattle.rules.specs.Answers.{isAccepted, firstOf, settleOf}
@@ -35,7 +35,7 @@ settled-accepted P cs v seen left f e = rw e (f (accepted-fine cs v e))
 
 -- a part of what a step saw that it leaves as it was
 abbrev pub Leaves : {A : Type 0} → (Seen → A) → Step → Type 0
-Leaves part step = (place : ℕ) (rest : Bool) (seen : Seen) → part (decideOf step place rest seen .left) ≡ part seen
+Leaves part step = (found : Found) (seen : Seen) → part (decideOf step found seen .left) ≡ part seen
 
 same : {A : Type 0} (part : Seen → A) (cs : List Check) (v : ℕ) (seen left : Seen) → part left ≡ part seen → part (settleOf (record { answer = firstOf cs v; left = left }) seen .left) ≡ part seen
 same part cs v seen left e = settled (λ x. part x ≡ part seen) cs v seen left (λ f. e) refl
@@ -77,11 +77,11 @@ pub data Mail : Body → Type 0 where
 pub data Clock : Step → Type 0 where
   Ticks : (site n : ℕ) → Clock (Step.Tick site n)
   Delivers :
-      (m : ℕ) → ((place : ℕ) (rest : Bool) (seen : Seen) → isAccepted (decideOf (Step.Deliver m) place rest seen .answer) ≡ true → decideOf (Step.Deliver m) place rest seen .left .site .clock ≡ mailClock seen)
+      (m : ℕ) → ((found : Found) (seen : Seen) → isAccepted (decideOf (Step.Deliver m) found seen .answer) ≡ true → decideOf (Step.Deliver m) found seen .left .site .clock ≡ mailClock seen)
       → Clock (Step.Deliver m)
   Moves :
       (step : Step) → actsAtSite step ≡ true
-      → ((place : ℕ) (rest : Bool) (seen : Seen) → isAccepted (decideOf step place rest seen .answer) ≡ true → decideOf step place rest seen .left .site .clock ≡ seen .site .clock + 1)
+      → ((found : Found) (seen : Seen) → isAccepted (decideOf step found seen .answer) ≡ true → decideOf step found seen .left .site .clock ≡ seen .site .clock + 1)
       → Clock step
   Rests : (step : Step) → actsAtSite step ≡ false → Leaves (λ s. s .site) step → Clock step
 
@@ -95,7 +95,7 @@ pub data Goes : Step → Type 0 where
 pub data Handle : Step → Type 0 where
   Named :
       (step : Step) → lookOf step .slot ≡ SlotAt.Given (flatOf step .h)
-      → ((place : ℕ) (rest : Bool) (seen : Seen) → isAccepted (decideOf step place rest seen .answer) ≡ true
+      → ((found : Found) (seen : Seen) → isAccepted (decideOf step found seen .answer) ≡ true
       → (isFree (seen .passage .status) || not (eqb (seen .passage .generation) (generationOf (flatOf step .h)))) ≡ false)
       → Handle step
   Nameless : (step : Step) → isNamed (rowOf (flatOf step .code)) 8 ≡ false → Handle step
@@ -147,145 +147,145 @@ pub deedOf : (step : Step) → Deed step
 unfolding decideOf tickOf sweepOf crashOf recoverOf beginOf abortOf retireOf refreshOf terminateOf prepareOf openOf askOf closeOf tellOf invokeOf dropOf
 deedOf (Step.Tick site n) =
     record {
-      objects = Objects.Stay _ refl refl (λ place rest seen. same (λ s. s .objects) _ _ seen _ refl);
-      generation = Generation.Stays _ refl (λ place rest seen. same (λ s. s .passage .generation) _ _ seen _ refl);
-      marks = Marks.Stay _ (λ place rest seen. same (λ s. s .visit .there) _ _ seen _ refl) (λ place rest seen. same (λ s. s .visit .prepared) _ _ seen _ refl);
+      objects = Objects.Stay _ refl refl (λ found seen. same (λ s. s .objects) _ _ seen _ refl);
+      generation = Generation.Stays _ refl (λ found seen. same (λ s. s .passage .generation) _ _ seen _ refl);
+      marks = Marks.Stay _ (λ found seen. same (λ s. s .visit .there) _ _ seen _ refl) (λ found seen. same (λ s. s .visit .prepared) _ _ seen _ refl);
       clock = Clock.Ticks site n;
       goes = Goes.Nowhere _ refl;
       handle = Handle.Nameless _ refl;
     }
 deedOf (Step.Begin home slot q r) =
     record {
-      objects = Objects.Stay _ refl refl (λ place rest seen. same (λ s. s .objects) _ _ seen _ refl);
-      generation = Generation.Stays _ refl (λ place rest seen. same (λ s. s .passage .generation) _ _ seen _ refl);
+      objects = Objects.Stay _ refl refl (λ found seen. same (λ s. s .objects) _ _ seen _ refl);
+      generation = Generation.Stays _ refl (λ found seen. same (λ s. s .passage .generation) _ _ seen _ refl);
       marks = Marks.Begins home slot q r;
-      clock = Clock.Moves _ refl (λ place rest seen e. settled-accepted (λ s. s .site .clock ≡ seen .site .clock + 1) _ _ seen _ (λ f. refl) e);
+      clock = Clock.Moves _ refl (λ found seen e. settled-accepted (λ s. s .site .clock ≡ seen .site .clock + 1) _ _ seen _ (λ f. refl) e);
       goes = Goes.Nowhere _ refl;
       handle = Handle.Nameless _ refl;
     }
 deedOf (Step.Invoke h site write object value) =
     record {
-      objects = Objects.Stay _ refl refl (λ place rest seen. same (λ s. s .objects) _ _ seen _ refl);
-      generation = Generation.Stays _ refl (λ place rest seen. same (λ s. s .passage .generation) _ _ seen _ refl);
-      marks = Marks.Stay _ (λ place rest seen. same (λ s. s .visit .there) _ _ seen _ refl) (λ place rest seen. same (λ s. s .visit .prepared) _ _ seen _ refl);
-      clock = Clock.Moves _ refl (λ place rest seen e. settled-accepted (λ s. s .site .clock ≡ seen .site .clock + 1) _ _ seen _ (λ f. refl) e);
+      objects = Objects.Stay _ refl refl (λ found seen. same (λ s. s .objects) _ _ seen _ refl);
+      generation = Generation.Stays _ refl (λ found seen. same (λ s. s .passage .generation) _ _ seen _ refl);
+      marks = Marks.Stay _ (λ found seen. same (λ s. s .visit .there) _ _ seen _ refl) (λ found seen. same (λ s. s .visit .prepared) _ _ seen _ refl);
+      clock = Clock.Moves _ refl (λ found seen e. settled-accepted (λ s. s .site .clock ≡ seen .site .clock + 1) _ _ seen _ (λ f. refl) e);
       goes = Goes.Nowhere _ refl;
-      handle = Handle.Named _ refl (λ place rest seen e. accepted-fine _ _ e .found);
+      handle = Handle.Named _ refl (λ found seen e. accepted-fine _ _ e .found);
     }
 deedOf (Step.Refresh h q r) =
     record {
-      objects = Objects.Stay _ refl refl (λ place rest seen. same (λ s. s .objects) _ _ seen _ refl);
-      generation = Generation.Stays _ refl (λ place rest seen. same (λ s. s .passage .generation) _ _ seen _ refl);
-      marks = Marks.Stay _ (λ place rest seen. same (λ s. s .visit .there) _ _ seen _ refl) (λ place rest seen. same (λ s. s .visit .prepared) _ _ seen _ refl);
-      clock = Clock.Moves _ refl (λ place rest seen e. settled-accepted (λ s. s .site .clock ≡ seen .site .clock + 1) _ _ seen _ (λ f. refl) e);
+      objects = Objects.Stay _ refl refl (λ found seen. same (λ s. s .objects) _ _ seen _ refl);
+      generation = Generation.Stays _ refl (λ found seen. same (λ s. s .passage .generation) _ _ seen _ refl);
+      marks = Marks.Stay _ (λ found seen. same (λ s. s .visit .there) _ _ seen _ refl) (λ found seen. same (λ s. s .visit .prepared) _ _ seen _ refl);
+      clock = Clock.Moves _ refl (λ found seen e. settled-accepted (λ s. s .site .clock ≡ seen .site .clock + 1) _ _ seen _ (λ f. refl) e);
       goes = Goes.Nowhere _ refl;
-      handle = Handle.Named _ refl (λ place rest seen e. accepted-fine _ _ e .found);
+      handle = Handle.Named _ refl (λ found seen e. accepted-fine _ _ e .found);
     }
 deedOf (Step.Terminate h) =
     record {
-      objects = Objects.Stay _ refl refl (λ place rest seen. same (λ s. s .objects) _ _ seen _ refl);
-      generation = Generation.Stays _ refl (λ place rest seen. same (λ s. s .passage .generation) _ _ seen _ refl);
+      objects = Objects.Stay _ refl refl (λ found seen. same (λ s. s .objects) _ _ seen _ refl);
+      generation = Generation.Stays _ refl (λ found seen. same (λ s. s .passage .generation) _ _ seen _ refl);
       marks = Marks.Terminates h;
-      clock = Clock.Moves _ refl (λ place rest seen e. settled-accepted (λ s. s .site .clock ≡ seen .site .clock + 1) _ _ seen _ (λ f. refl) e);
+      clock = Clock.Moves _ refl (λ found seen e. settled-accepted (λ s. s .site .clock ≡ seen .site .clock + 1) _ _ seen _ (λ f. refl) e);
       goes = Goes.Nowhere _ refl;
-      handle = Handle.Named _ refl (λ place rest seen e. accepted-fine _ _ e .found);
+      handle = Handle.Named _ refl (λ found seen e. accepted-fine _ _ e .found);
     }
 deedOf (Step.Prepare h) =
     record {
-      objects = Objects.Stay _ refl refl (λ place rest seen. same (λ s. s .objects) _ _ seen _ refl);
-      generation = Generation.Stays _ refl (λ place rest seen. same (λ s. s .passage .generation) _ _ seen _ refl);
+      objects = Objects.Stay _ refl refl (λ found seen. same (λ s. s .objects) _ _ seen _ refl);
+      generation = Generation.Stays _ refl (λ found seen. same (λ s. s .passage .generation) _ _ seen _ refl);
       marks = Marks.Prepares h;
-      clock = Clock.Moves _ refl (λ place rest seen e. settled-accepted (λ s. s .site .clock ≡ seen .site .clock + 1) _ _ seen _ (λ f. refl) e);
+      clock = Clock.Moves _ refl (λ found seen e. settled-accepted (λ s. s .site .clock ≡ seen .site .clock + 1) _ _ seen _ (λ f. refl) e);
       goes = Goes.Nowhere _ refl;
-      handle = Handle.Named _ refl (λ place rest seen e. accepted-fine _ _ e .found);
+      handle = Handle.Named _ refl (λ found seen e. accepted-fine _ _ e .found);
     }
 deedOf (Step.Ask h site) =
     record {
-      objects = Objects.Stay _ refl refl (λ place rest seen. same (λ s. s .objects) _ _ seen _ refl);
-      generation = Generation.Stays _ refl (λ place rest seen. same (λ s. s .passage .generation) _ _ seen _ refl);
-      marks = Marks.Stay _ (λ place rest seen. same (λ s. s .visit .there) _ _ seen _ refl) (λ place rest seen. same (λ s. s .visit .prepared) _ _ seen _ refl);
-      clock = Clock.Moves _ refl (λ place rest seen e. settled-accepted (λ s. s .site .clock ≡ seen .site .clock + 1) _ _ seen _ (λ f. refl) e);
+      objects = Objects.Stay _ refl refl (λ found seen. same (λ s. s .objects) _ _ seen _ refl);
+      generation = Generation.Stays _ refl (λ found seen. same (λ s. s .passage .generation) _ _ seen _ refl);
+      marks = Marks.Stay _ (λ found seen. same (λ s. s .visit .there) _ _ seen _ refl) (λ found seen. same (λ s. s .visit .prepared) _ _ seen _ refl);
+      clock = Clock.Moves _ refl (λ found seen e. settled-accepted (λ s. s .site .clock ≡ seen .site .clock + 1) _ _ seen _ (λ f. refl) e);
       goes = Goes.Nowhere _ refl;
-      handle = Handle.Named _ refl (λ place rest seen e. accepted-fine _ _ e .found);
+      handle = Handle.Named _ refl (λ found seen e. accepted-fine _ _ e .found);
     }
 deedOf (Step.Close h) =
     record {
       objects = Objects.Closes h;
-      generation = Generation.Stays _ refl (λ place rest seen. same (λ s. s .passage .generation) _ _ seen _ refl);
+      generation = Generation.Stays _ refl (λ found seen. same (λ s. s .passage .generation) _ _ seen _ refl);
       marks = Marks.Closes h;
-      clock = Clock.Moves _ refl (λ place rest seen e. settled-accepted (λ s. s .site .clock ≡ seen .site .clock + 1) _ _ seen _ (λ f. refl) e);
+      clock = Clock.Moves _ refl (λ found seen e. settled-accepted (λ s. s .site .clock ≡ seen .site .clock + 1) _ _ seen _ (λ f. refl) e);
       goes = Goes.Nowhere _ refl;
-      handle = Handle.Named _ refl (λ place rest seen e. accepted-fine _ _ e .found);
+      handle = Handle.Named _ refl (λ found seen e. accepted-fine _ _ e .found);
     }
 deedOf (Step.Tell h site) =
     record {
-      objects = Objects.Stay _ refl refl (λ place rest seen. same (λ s. s .objects) _ _ seen _ refl);
-      generation = Generation.Stays _ refl (λ place rest seen. same (λ s. s .passage .generation) _ _ seen _ refl);
-      marks = Marks.Stay _ (λ place rest seen. same (λ s. s .visit .there) _ _ seen _ refl) (λ place rest seen. same (λ s. s .visit .prepared) _ _ seen _ refl);
-      clock = Clock.Moves _ refl (λ place rest seen e. settled-accepted (λ s. s .site .clock ≡ seen .site .clock + 1) _ _ seen _ (λ f. refl) e);
+      objects = Objects.Stay _ refl refl (λ found seen. same (λ s. s .objects) _ _ seen _ refl);
+      generation = Generation.Stays _ refl (λ found seen. same (λ s. s .passage .generation) _ _ seen _ refl);
+      marks = Marks.Stay _ (λ found seen. same (λ s. s .visit .there) _ _ seen _ refl) (λ found seen. same (λ s. s .visit .prepared) _ _ seen _ refl);
+      clock = Clock.Moves _ refl (λ found seen e. settled-accepted (λ s. s .site .clock ≡ seen .site .clock + 1) _ _ seen _ (λ f. refl) e);
       goes = Goes.Nowhere _ refl;
-      handle = Handle.Named _ refl (λ place rest seen e. accepted-fine _ _ e .found);
+      handle = Handle.Named _ refl (λ found seen e. accepted-fine _ _ e .found);
     }
 deedOf (Step.Abort h) =
     record {
-      objects = Objects.Stay _ refl refl (λ place rest seen. same (λ s. s .objects) _ _ seen _ refl);
-      generation = Generation.Stays _ refl (λ place rest seen. same (λ s. s .passage .generation) _ _ seen _ refl);
+      objects = Objects.Stay _ refl refl (λ found seen. same (λ s. s .objects) _ _ seen _ refl);
+      generation = Generation.Stays _ refl (λ found seen. same (λ s. s .passage .generation) _ _ seen _ refl);
       marks = Marks.Aborts h;
-      clock = Clock.Moves _ refl (λ place rest seen e. settled-accepted (λ s. s .site .clock ≡ seen .site .clock + 1) _ _ seen _ (λ f. refl) e);
+      clock = Clock.Moves _ refl (λ found seen e. settled-accepted (λ s. s .site .clock ≡ seen .site .clock + 1) _ _ seen _ (λ f. refl) e);
       goes = Goes.Nowhere _ refl;
-      handle = Handle.Named _ refl (λ place rest seen e. accepted-fine _ _ e .found);
+      handle = Handle.Named _ refl (λ found seen e. accepted-fine _ _ e .found);
     }
 deedOf (Step.Deliver m) =
     record {
       objects = Objects.Delivers m;
-      generation = Generation.Stays _ refl (λ place rest seen. delivered-generation (seen .message .body) m seen);
+      generation = Generation.Stays _ refl (λ found seen. delivered-generation (seen .message .body) m seen);
       marks = Marks.Delivers m;
-      clock = Clock.Delivers m (λ place rest seen e. delivered-clock (seen .message .body) m seen refl e);
+      clock = Clock.Delivers m (λ found seen e. delivered-clock (seen .message .body) m seen refl e);
       goes = Goes.Nowhere _ refl;
       handle = Handle.Nameless _ refl;
     }
 deedOf (Step.Drop m) =
     record {
-      objects = Objects.Stay _ refl refl (λ place rest seen. same (λ s. s .objects) _ _ seen _ refl);
-      generation = Generation.Stays _ refl (λ place rest seen. same (λ s. s .passage .generation) _ _ seen _ refl);
-      marks = Marks.Stay _ (λ place rest seen. same (λ s. s .visit .there) _ _ seen _ refl) (λ place rest seen. same (λ s. s .visit .prepared) _ _ seen _ refl);
-      clock = Clock.Rests _ refl (λ place rest seen. same (λ s. s .site) _ _ seen _ refl);
+      objects = Objects.Stay _ refl refl (λ found seen. same (λ s. s .objects) _ _ seen _ refl);
+      generation = Generation.Stays _ refl (λ found seen. same (λ s. s .passage .generation) _ _ seen _ refl);
+      marks = Marks.Stay _ (λ found seen. same (λ s. s .visit .there) _ _ seen _ refl) (λ found seen. same (λ s. s .visit .prepared) _ _ seen _ refl);
+      clock = Clock.Rests _ refl (λ found seen. same (λ s. s .site) _ _ seen _ refl);
       goes = Goes.Nowhere _ refl;
       handle = Handle.Nameless _ refl;
     }
 deedOf (Step.Sweep site) =
     record {
-      objects = Objects.Stay _ refl refl (λ place rest seen. same (λ s. s .objects) _ _ seen _ refl);
-      generation = Generation.Stays _ refl (λ place rest seen. same (λ s. s .passage .generation) _ _ seen _ refl);
-      marks = Marks.Stay _ (λ place rest seen. same (λ s. s .visit .there) _ _ seen _ refl) (λ place rest seen. same (λ s. s .visit .prepared) _ _ seen _ refl);
-      clock = Clock.Moves _ refl (λ place rest seen e. settled-accepted (λ s. s .site .clock ≡ seen .site .clock + 1) _ _ seen _ (λ f. refl) e);
+      objects = Objects.Stay _ refl refl (λ found seen. same (λ s. s .objects) _ _ seen _ refl);
+      generation = Generation.Stays _ refl (λ found seen. same (λ s. s .passage .generation) _ _ seen _ refl);
+      marks = Marks.Stay _ (λ found seen. same (λ s. s .visit .there) _ _ seen _ refl) (λ found seen. same (λ s. s .visit .prepared) _ _ seen _ refl);
+      clock = Clock.Moves _ refl (λ found seen e. settled-accepted (λ s. s .site .clock ≡ seen .site .clock + 1) _ _ seen _ (λ f. refl) e);
       goes = Goes.Sweeps site;
       handle = Handle.Nameless _ refl;
     }
 deedOf (Step.Crash site) =
     record {
-      objects = Objects.Stay _ refl refl (λ place rest seen. same (λ s. s .objects) _ _ seen _ refl);
-      generation = Generation.Stays _ refl (λ place rest seen. same (λ s. s .passage .generation) _ _ seen _ refl);
-      marks = Marks.Stay _ (λ place rest seen. same (λ s. s .visit .there) _ _ seen _ refl) (λ place rest seen. same (λ s. s .visit .prepared) _ _ seen _ refl);
-      clock = Clock.Moves _ refl (λ place rest seen e. settled-accepted (λ s. s .site .clock ≡ seen .site .clock + 1) _ _ seen _ (λ f. refl) e);
+      objects = Objects.Stay _ refl refl (λ found seen. same (λ s. s .objects) _ _ seen _ refl);
+      generation = Generation.Stays _ refl (λ found seen. same (λ s. s .passage .generation) _ _ seen _ refl);
+      marks = Marks.Stay _ (λ found seen. same (λ s. s .visit .there) _ _ seen _ refl) (λ found seen. same (λ s. s .visit .prepared) _ _ seen _ refl);
+      clock = Clock.Moves _ refl (λ found seen e. settled-accepted (λ s. s .site .clock ≡ seen .site .clock + 1) _ _ seen _ (λ f. refl) e);
       goes = Goes.Crashes site;
       handle = Handle.Nameless _ refl;
     }
 deedOf (Step.Recover site) =
     record {
-      objects = Objects.Stay _ refl refl (λ place rest seen. same (λ s. s .objects) _ _ seen _ refl);
-      generation = Generation.Stays _ refl (λ place rest seen. same (λ s. s .passage .generation) _ _ seen _ refl);
-      marks = Marks.Stay _ (λ place rest seen. same (λ s. s .visit .there) _ _ seen _ refl) (λ place rest seen. same (λ s. s .visit .prepared) _ _ seen _ refl);
-      clock = Clock.Moves _ refl (λ place rest seen e. settled-accepted (λ s. s .site .clock ≡ seen .site .clock + 1) _ _ seen _ (λ f. refl) e);
+      objects = Objects.Stay _ refl refl (λ found seen. same (λ s. s .objects) _ _ seen _ refl);
+      generation = Generation.Stays _ refl (λ found seen. same (λ s. s .passage .generation) _ _ seen _ refl);
+      marks = Marks.Stay _ (λ found seen. same (λ s. s .visit .there) _ _ seen _ refl) (λ found seen. same (λ s. s .visit .prepared) _ _ seen _ refl);
+      clock = Clock.Moves _ refl (λ found seen e. settled-accepted (λ s. s .site .clock ≡ seen .site .clock + 1) _ _ seen _ (λ f. refl) e);
       goes = Goes.Nowhere _ refl;
       handle = Handle.Nameless _ refl;
     }
 deedOf (Step.Retire h) =
     record {
-      objects = Objects.Stay _ refl refl (λ place rest seen. same (λ s. s .objects) _ _ seen _ refl);
+      objects = Objects.Stay _ refl refl (λ found seen. same (λ s. s .objects) _ _ seen _ refl);
       generation = Generation.Retires h;
-      marks = Marks.Stay _ (λ place rest seen. same (λ s. s .visit .there) _ _ seen _ refl) (λ place rest seen. same (λ s. s .visit .prepared) _ _ seen _ refl);
-      clock = Clock.Rests _ refl (λ place rest seen. same (λ s. s .site) _ _ seen _ refl);
+      marks = Marks.Stay _ (λ found seen. same (λ s. s .visit .there) _ _ seen _ refl) (λ found seen. same (λ s. s .visit .prepared) _ _ seen _ refl);
+      clock = Clock.Rests _ refl (λ found seen. same (λ s. s .site) _ _ seen _ refl);
       goes = Goes.Nowhere _ refl;
-      handle = Handle.Named _ refl (λ place rest seen e. accepted-fine _ _ e .found);
+      handle = Handle.Named _ refl (λ found seen e. accepted-fine _ _ e .found);
     }

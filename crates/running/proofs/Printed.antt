@@ -8,8 +8,8 @@ use mathlib.Core.List.{List, [], _∷_}
 use lib.ListN.{length, set, length-set}
 use Rattle.rules.specs.declared.tables.Tables.{Tables}
 use Rattle.rules.specs.declared.steps.Reading.{Reading}
-use Rattle.rules.specs.declared.answers.Answer.{Answer}
-use Rattle.rules.specs.declared.answers.Outcome.{Outcome}
+use Rattle.rules.specs.declared.outcomes.Answer.{Answer}
+use Rattle.rules.specs.declared.outcomes.Outcome.{Outcome}
 use Rattle.rules.specs.Ranges.{inRange}
 use Rattle.rules.specs.RangesKept.{start-in-range, in-range-after-record}
 use Rattle.rules.specs.Record.{stepOfRecord, readingOf, recordInRangeOf, stepRecordOf}

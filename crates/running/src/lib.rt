@@ -5,17 +5,18 @@ use decisions::turns::turn_count;
 use places::look::bank_place;
 use places::look::first_next;
 use places::look::mail_place;
+use places::look::rest_next;
 use places::look::site_place;
 use places::look::slot_place;
 use records::read_record;
-use rules::answers::Answer;
-use rules::answers::Refusal;
-use rules::answers::Seen;
+use rules::looking::Found;
+use rules::looking::Seen;
+use rules::outcomes::Answer;
+use rules::outcomes::Refusal;
 use sheet::record_at;
-use tables::start::start;
+use start::start;
 use work::decide_turn;
 use work::reading_look;
-use work::rest_next;
 use work::scan_count;
 use work::turn_look;
 ghost use Prim.Native.Nat.{_+_, _*_, _≤_};
@@ -106,7 +107,11 @@ pub fn run(part: &[u8], n: usize, out: &mut [u64])
                 message: message,
                 objects: objects,
             };
-            let d = decide_turn(reading, trip, turn, m, rest, answer, seen);
+            let found = Found {
+                place: m,
+                remains: rest,
+            };
+            let d = decide_turn(reading, trip, turn, found, answer, seen);
             let next = d.answer;
             let left = d.left;
             // What it leaves, in the same places.

@@ -7,7 +7,7 @@ use mathlib.Core.Bool.{Bool, true, false, _||_, true≢false}
 use mathlib.Core.List.{List, [], _∷_}
 use lib.Dec.{eqb, ltb}
 use borrow.Author.Tests.{eqb-false}
-use Rattle.rules.specs.declared.answers.Trip.{Trip}
+use Rattle.rules.specs.declared.looking.Trip.{Trip}
 use Rattle.rules.specs.Limits.{tickMost}
 use Rattle.rules.specs.LoopsLaws.{either, or-left, or-right}
 use Rattle.rules.specs.Tables.{siteAt}
@@ -20,7 +20,7 @@ use Rattle.rules.specs.RangesLaws.{placed-places, placed-trip}
 use Rattle.rules.specs.RefusedLaws.{decided-refused}
 use Rattle.rules.specs.Runs.{runOf, actsAtSite}
 use Rattle.rules.specs.Views.{settled-accepted, Clock, deedOf}
-use Rattle.runs.specs.Types.{Tables, Step, Places, Seen, Outcome}
+use Rattle.runs.specs.Types.{Tables, Step, Places, Seen, Outcome, Found}
 use Rattle.runs.specs.Put.{same-or-other}
 use Rattle.runs.specs.Sizes.{sized-step, sized-accepted-has, sized-step-has}
 
@@ -40,45 +40,45 @@ tick-adds site n seen =
 
 -- an accepted step that acts at its site moves its clock
 acted-adds :
-    (step : Step) (place : ℕ) (rest : Bool) (seen : Seen) → Clock step → actsAtSite step ≡ true
-    → isAccepted (decideOf step place rest seen .answer) ≡ true
-    → Grown seen (decideOf step place rest seen .left)
+    (step : Step) (found : Found) (seen : Seen) → Clock step → actsAtSite step ≡ true
+    → isAccepted (decideOf step found seen .answer) ≡ true
+    → Grown seen (decideOf step found seen .left)
 unfolding decideOf
-acted-adds _ place rest seen (Clock.Ticks site n) a e = tick-adds site n seen e
-acted-adds _ place rest seen (Clock.Delivers m moves) a e = omega (arith, moves place rest seen e)
-acted-adds _ place rest seen (Clock.Moves step b moves) a e = omega (arith, moves place rest seen e)
-acted-adds _ place rest seen (Clock.Rests step b stays) a e = absurd (true≢false (sym a ∙ b))
+acted-adds _ found seen (Clock.Ticks site n) a e = tick-adds site n seen e
+acted-adds _ found seen (Clock.Delivers m moves) a e = omega (arith, moves found seen e)
+acted-adds _ found seen (Clock.Moves step b moves) a e = omega (arith, moves found seen e)
+acted-adds _ found seen (Clock.Rests step b stays) a e = absurd (true≢false (sym a ∙ b))
 
 decided-adds :
-    (step : Step) (place : ℕ) (rest : Bool) (seen : Seen) → actsAtSite step ≡ true
-    → isAccepted (decideOf step place rest seen .answer) ≡ true
-    → Grown seen (decideOf step place rest seen .left)
-decided-adds step place rest seen = acted-adds step place rest seen (deedOf step .clock)
+    (step : Step) (found : Found) (seen : Seen) → actsAtSite step ≡ true
+    → isAccepted (decideOf step found seen .answer) ≡ true
+    → Grown seen (decideOf step found seen .left)
+decided-adds step found seen = acted-adds step found seen (deedOf step .clock)
 
 -- drop and retire leave the site
-idle-site : (step : Step) (place : ℕ) (rest : Bool) (seen : Seen) → Clock step → actsAtSite step ≡ false → decideOf step place rest seen .left .site ≡ seen .site
-idle-site _ place rest seen (Clock.Ticks site n) a = absurd (true≢false a)
-idle-site _ place rest seen (Clock.Delivers m moves) a = absurd (true≢false a)
-idle-site _ place rest seen (Clock.Moves step b moves) a = absurd (true≢false (sym b ∙ a))
-idle-site _ place rest seen (Clock.Rests step b stays) a = stays place rest seen
+idle-site : (step : Step) (found : Found) (seen : Seen) → Clock step → actsAtSite step ≡ false → decideOf step found seen .left .site ≡ seen .site
+idle-site _ found seen (Clock.Ticks site n) a = absurd (true≢false a)
+idle-site _ found seen (Clock.Delivers m moves) a = absurd (true≢false a)
+idle-site _ found seen (Clock.Moves step b moves) a = absurd (true≢false (sym b ∙ a))
+idle-site _ found seen (Clock.Rests step b stays) a = stays found seen
 
 idle-decided :
-    (step : Step) (place : ℕ) (rest : Bool) (seen : Seen) → actsAtSite step ≡ false
-    → decideOf step place rest seen .left .site ≡ seen .site
-idle-decided step place rest seen = idle-site step place rest seen (deedOf step .clock)
+    (step : Step) (found : Found) (seen : Seen) → actsAtSite step ≡ false
+    → decideOf step found seen .left .site ≡ seen .site
+idle-decided step found seen = idle-site step found seen (deedOf step .clock)
 
 decided-not-back :
-    (step : Step) (place : ℕ) (rest : Bool) (seen : Seen)
-    → seen .site .clock ≤ decideOf step place rest seen .left .site .clock
-decided-not-back step place rest seen =
+    (step : Step) (found : Found) (seen : Seen)
+    → seen .site .clock ≤ decideOf step found seen .left .site .clock
+decided-not-back step found seen =
     ⊎-elim
     (λ e.
     ⊎-elim
-    (λ a. let i : Grown seen (decideOf step place rest seen .left) = decided-adds step place rest seen a e in omega arith)
-    (λ a. rw (idle-decided step place rest seen a) (omega arith))
+    (λ a. let i : Grown seen (decideOf step found seen .left) = decided-adds step found seen a e in omega arith)
+    (λ a. rw (idle-decided step found seen a) (omega arith))
     (either (actsAtSite step)))
-    (λ e. rw (decided-refused step place rest seen e) (omega arith))
-    (either (isAccepted (decideOf step place rest seen .answer)))
+    (λ e. rw (decided-refused step found seen e) (omega arith))
+    (either (isAccepted (decideOf step found seen .answer)))
 
 -- ---- what a store does to the clocks
 
@@ -103,7 +103,7 @@ head-not-back t step z =
     _
     z
     (placed-places t (lookOf step))
-    (decided-not-back step _ _ (seenOf t (placesOf t (lookOf step))))
+    (decided-not-back step _ (seenOf t (placesOf t (lookOf step))))
 
 -- each slot of a sweep or a crash stores the site back
 pub turned-site : (trip : Trip) (slot : ℕ) (seen : Seen) → turnSeen trip slot seen .site ≡ seen .site
@@ -171,7 +171,7 @@ unfolding headOf
 head-adds t step z e a =
     rw
     (site-after-stored t (placesOf t (lookOf step)) _ z (placed-places t (lookOf step)))
-    (decided-adds step _ _ (seenOf t (placesOf t (lookOf step))) a e)
+    (decided-adds step _ (seenOf t (placesOf t (lookOf step))) a e)
 
 pub clock-adds :
     (t : Tables) (step : Step) → Sized t → isAccepted (stepOf t step .answer) ≡ true → actsAtSite step ≡ true

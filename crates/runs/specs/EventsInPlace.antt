@@ -98,7 +98,7 @@ pub events-in-place-from : (t : Tables) (step : Step) → Held t → AllInPlace 
 unfolding headOf
 events-in-place-from t step held =
     ⊎-elim
-    (λ a. accepted-in-place t step a (decided-did t step _ _ held (head-accepted t step a)))
+    (λ a. accepted-in-place t step a (decided-did t step _ held (head-accepted t step a)))
     (λ a. rw (refused-no-event t step a) tt)
     (either (isAccepted (stepOf t step .answer)))
 

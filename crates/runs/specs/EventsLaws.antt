@@ -235,6 +235,6 @@ module _ (t : Tables) (step : Step) (held : Held t) (p k : ℕ) (slot : p < 16) 
   unfolding headOf heldOver
   events-tell =
       ⊎-elim
-      (λ a. accepted-told a (decided-did t step _ _ held (head-accepted t step a)))
+      (λ a. accepted-told a (decided-did t step _ held (head-accepted t step a)))
       (λ a. rw (refused-no-event t step a, refused-leaves t step a))
       (either (isAccepted (stepOf t step .answer)))

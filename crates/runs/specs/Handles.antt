@@ -7,7 +7,7 @@ use mathlib.Core.Bool.{Bool, true, false, cond, not, _&&_, _||_, false≢true}
 use mathlib.Core.List.{List, [], _∷_, _++_}
 use lib.Dec.{eqb, ltb}
 use borrow.Author.Tests.{eqb-true, eq-eqb, ne-eqb, ltb-false}
-use Rattle.rules.specs.declared.answers.Trip.{Trip}
+use Rattle.rules.specs.declared.looking.Trip.{Trip}
 use Rattle.rules.specs.Loops.{oneIf}
 use Rattle.rules.specs.LoopsLaws.{either, or-left, or-right, not-false, cond-keeps, and-right}
 use Rattle.rules.specs.Tables.{start, passageAt, slotOf, generationOf, handleOf, freeSlot, pastPassage}
@@ -17,14 +17,14 @@ use Rattle.rules.specs.Parts.{isFree, isActive, abortedPassage}
 use Rattle.rules.specs.Checks.{badSite, badTimes}
 use Rattle.rules.specs.Stations.{isSwept, sweptSlot, losesHome, crashedSlot}
 use Rattle.rules.specs.Passages.{beginOf, retireOf}
-use Rattle.rules.specs.Machine.{lookOf, placesOf, seenOf, remains, decideOf, stored, headOf, turnOf, turnsUpTo, stepOf, tripPlaces, turnSeen}
+use Rattle.rules.specs.Machine.{lookOf, placesOf, seenOf, decideOf, stored, headOf, turnOf, turnsUpTo, stepOf, tripPlaces, turnSeen, foundOf}
 use Rattle.rules.specs.StoredLaws.{Sized, Placed, passage-after-stored, passage-after-stored-other, turn-stored}
 use Rattle.rules.specs.RangesLaws.{placed-places, placed-trip}
 use Rattle.rules.specs.RefusedLaws.{refused-leaves}
 use Rattle.rules.specs.Record.{rowOf, isNamed, flatOf}
 use Rattle.rules.specs.Runs.{Entry, runOf, entryOf, entriesOf, historyOf}
 use Rattle.rules.specs.Views.{Generation, Handle, deedOf}
-use Rattle.runs.specs.Types.{Passage, Tables, Step, Places, Seen, Outcome}
+use Rattle.runs.specs.Types.{Passage, Tables, Step, Places, Seen, Outcome, Found}
 use Rattle.runs.specs.Put.{same-or-other}
 use Rattle.runs.specs.Steps.{accepted-turned, head-accepted, run-on}
 use Rattle.runs.specs.Sizes.{sized-start, sized-run, sized-step, sized-accepted-has}
@@ -74,19 +74,19 @@ retire-moves h rest seen e =
     }
 
 seen-moves :
-    (t : Tables) (step : Step) (place : ℕ) (rest : Bool) (seen : Seen) → Generation step
-    → isAccepted (decideOf step place rest seen .answer) ≡ true
-    → Moves (placesOf t (lookOf step) .slot) step seen (decideOf step place rest seen .left)
+    (t : Tables) (step : Step) (found : Found) (seen : Seen) → Generation step
+    → isAccepted (decideOf step found seen .answer) ≡ true
+    → Moves (placesOf t (lookOf step) .slot) step seen (decideOf step found seen .left)
 unfolding placesOf decideOf
-seen-moves t _ place rest seen (Generation.Retires h) e = retire-moves h rest seen e
-seen-moves t _ place rest seen (Generation.Stays step never stays) e =
-    record { own = rw never (stays place rest seen); other = λ p n. rw never }
+seen-moves t _ found seen (Generation.Retires h) e = retire-moves h (found .remains) seen e
+seen-moves t _ found seen (Generation.Stays step never stays) e =
+    record { own = rw never (stays found seen); other = λ p n. rw never }
 
 decided-moves :
-    (t : Tables) (step : Step) (place : ℕ) (rest : Bool) (seen : Seen)
-    → isAccepted (decideOf step place rest seen .answer) ≡ true
-    → Moves (placesOf t (lookOf step) .slot) step seen (decideOf step place rest seen .left)
-decided-moves t step place rest seen = seen-moves t step place rest seen (deedOf step .generation)
+    (t : Tables) (step : Step) (found : Found) (seen : Seen)
+    → isAccepted (decideOf step found seen .answer) ≡ true
+    → Moves (placesOf t (lookOf step) .slot) step seen (decideOf step found seen .left)
+decided-moves t step found seen = seen-moves t step found seen (deedOf step .generation)
 
 -- ---- steps
 
@@ -109,7 +109,7 @@ head-generation :
 unfolding headOf
 head-generation t step z e =
     let at : Places = placesOf t (lookOf step) in
-    let m = decided-moves t step (at .message) (remains t (at .slot)) (seenOf t at) e in
+    let m = decided-moves t step (foundOf t at) (seenOf t at) e in
     stored-generation t at _ z (placed-places t (lookOf step)) (λ p. moved (retires p step)) (m .own) (λ p n. rw (m .other p n))
 
 -- each slot of a sweep or a crash leaves the generation
@@ -217,20 +217,20 @@ module _ (t : Tables) (h : ℕ) (old : generationAt t (slotOf h) ≢ generationO
       old (subst (λ (x : ℕ). generationAt t (slotOf x) ≡ generationOf x) q (eqb-true _ _ (not-false _ (or-right (isFree (passageAt t (slotOf g) .status)) _ f))))
 
   named-apart :
-      (step : Step) (place : ℕ) (rest : Bool) → Handle step → names h step ≡ true
-      → isAccepted (decideOf step place rest (seenOf t (placesOf t (lookOf step))) .answer) ≡ true
+      (step : Step) (found : Found) → Handle step → names h step ≡ true
+      → isAccepted (decideOf step found (seenOf t (placesOf t (lookOf step))) .answer) ≡ true
       → ⊥
   unfolding placesOf
-  named-apart _ place rest (Handle.Named step slot found) e a =
-      let f = found place rest (seenOf t (placesOf t (lookOf step))) a in
+  named-apart _ found (Handle.Named step slot names-it) e a =
+      let f = names-it found (seenOf t (placesOf t (lookOf step))) a in
       told-apart (flatOf step .h) (and-right (isNamed (rowOf (flatOf step .code)) 8) (eqb (flatOf step .h) h) e) (rw slot at f)
-  named-apart _ place rest (Handle.Nameless step none) e a = false≢true (rw none at e)
+  named-apart _ found (Handle.Nameless step none) e a = false≢true (rw none at e)
 
   decided-apart :
       (step : Step) → names h step ≡ true
-      → isAccepted (decideOf step (placesOf t (lookOf step) .message) (remains t (placesOf t (lookOf step) .slot)) (seenOf t (placesOf t (lookOf step))) .answer) ≡ true
+      → isAccepted (decideOf step (foundOf t (placesOf t (lookOf step))) (seenOf t (placesOf t (lookOf step))) .answer) ≡ true
       → ⊥
-  decided-apart step = named-apart step _ _ (deedOf step .handle)
+  decided-apart step = named-apart step _ (deedOf step .handle)
 
   head-apart : (step : Step) → names h step ≡ true → isAccepted (headOf t step .answer) ≡ true → ⊥
   unfolding headOf

@@ -11,8 +11,8 @@ use lib.Seq.{getD-set-same, getD-set-other}
 use borrow.Author.Tests.{ne-eqb}
 use Rattle.rules.specs.declared.tables.Holder.{Holder}
 use Rattle.rules.specs.declared.tables.Object.{Object}
-use Rattle.rules.specs.declared.answers.Trip.{Trip}
-use Rattle.rules.specs.declared.answers.Check.{Check}
+use Rattle.rules.specs.declared.looking.Trip.{Trip}
+use Rattle.rules.specs.declared.outcomes.Check.{Check}
 use Rattle.rules.specs.LoopsLaws.{either, cond-keeps}
 use Rattle.rules.specs.Tables.{start, pastObject, siteAt, objectAt, passageAt, visitAt, bankAt, objectSite, slotOf}
 use Rattle.rules.specs.Answers.{firstOf, settleOf}
@@ -26,7 +26,7 @@ use Rattle.rules.specs.RangesLaws.{placed-places, placed-trip}
 use Rattle.rules.specs.Runs.{runOf}
 use Rattle.rules.specs.StoredObjects.{seen-object-at, object-after-stored, object-after-stored-other, each-at}
 use Rattle.rules.specs.Views.{settled, Objects, Mail, mailOf, deedOf}
-use Rattle.runs.specs.Types.{Visit, Call, Told, Body, Tables, Step, Places, Seen, Outcome}
+use Rattle.runs.specs.Types.{Visit, Call, Told, Body, Tables, Step, Places, Seen, Outcome, Found}
 use Rattle.runs.specs.Put.{same-or-other}
 use Rattle.runs.specs.Steps.{run-on}
 use Rattle.runs.specs.Sizes.{sized-run, sized-step, sized-step-has}
@@ -158,17 +158,17 @@ turned-gone (Trip.Sweep site) n seen e = cond-keeps (λ (x : Seen). x .visit .th
 turned-gone (Trip.Crash site) n seen e = rw e
 
 seen-fast :
-    (t : Tables) (step : Step) (place : ℕ) (rest : Bool) → Objects step
-    → Fast t (placesOf t (lookOf step)) (decideOf step place rest (seenOf t (placesOf t (lookOf step))) .left)
+    (t : Tables) (step : Step) (found : Found) → Objects step
+    → Fast t (placesOf t (lookOf step)) (decideOf step found (seenOf t (placesOf t (lookOf step))) .left)
 unfolding placesOf decideOf
-seen-fast t _ place rest (Objects.Closes h) = close-fast t _ h refl refl
-seen-fast t _ place rest (Objects.Delivers m) = mail-fast t _ _ m (mailOf _) refl refl
-seen-fast t _ place rest (Objects.Stay step c d stay) = same-fast t _ _ (stay place rest (seenOf t (placesOf t (lookOf step))))
+seen-fast t _ found (Objects.Closes h) = close-fast t _ h refl refl
+seen-fast t _ found (Objects.Delivers m) = mail-fast t _ _ m (mailOf _) refl refl
+seen-fast t _ found (Objects.Stay step c d stay) = same-fast t _ _ (stay found (seenOf t (placesOf t (lookOf step))))
 
 decided-fast :
-    (t : Tables) (step : Step) (place : ℕ) (rest : Bool)
-    → Fast t (placesOf t (lookOf step)) (decideOf step place rest (seenOf t (placesOf t (lookOf step))) .left)
-decided-fast t step place rest = seen-fast t step place rest (deedOf step .objects)
+    (t : Tables) (step : Step) (found : Found)
+    → Fast t (placesOf t (lookOf step)) (decideOf step found (seenOf t (placesOf t (lookOf step))) .left)
+decided-fast t step found = seen-fast t step found (deedOf step .objects)
 
 -- ---- steps, for one object and the slot that held it
 
@@ -210,7 +210,7 @@ module _ (k p : ℕ) (slot : p < 16) where
 
   head-fast : (t : Tables) (step : Step) → Sized t → objectAt t k .holder ≡ Holder.Slot p → HeldOrGone (headOf t step .tables)
   unfolding headOf
-  head-fast t step z e = stored-fast t (placesOf t (lookOf step)) _ z (placed-places t (lookOf step)) (decided-fast t step _ _) e
+  head-fast t step z e = stored-fast t (placesOf t (lookOf step)) _ z (placed-places t (lookOf step)) (decided-fast t step _) e
 
   -- in any tables: after every step the slot that held the object holds it, or has no visit at its site
   pub let-go-with-visit :

@@ -10,18 +10,18 @@ use lib.ListN.{getD}
 use borrow.Author.Tests.{ltb-false}
 use Rattle.rules.specs.declared.tables.Holder.{Holder}
 use Rattle.rules.specs.declared.tables.Object.{Object}
-use Rattle.rules.specs.declared.answers.Trip.{Trip}
-use Rattle.rules.specs.declared.answers.Check.{Check}
+use Rattle.rules.specs.declared.looking.Trip.{Trip}
+use Rattle.rules.specs.declared.outcomes.Check.{Check}
 use Rattle.rules.specs.Limits.{widthMost}
 use Rattle.rules.specs.LoopsLaws.{either, or-left, or-right}
 use Rattle.rules.specs.Tables.{pastObject, siteAt, passageAt, visitAt, messageAt, bankAt, objectSite, slotOf, noMessage}
 use Rattle.rules.specs.Answers.{isAccepted, firstOf, settleOf}
 use Rattle.rules.specs.AnswersLaws.{Fine, accepted-fine}
-use Rattle.rules.specs.Parts.{nextClock, isHeldByOther, freed, restored, eachOf, whereThere, askedVisit, toldVisit, toldObjects, askedOf, plainMessage}
+use Rattle.rules.specs.Parts.{nextClock, isHeldByOther, freed, restored, eachOf, whereThere, askedVisit, toldVisit, toldObjects, askedOf, plainMessage, leftSite}
 use Rattle.rules.specs.Checks.{badSite, badHandle}
 use Rattle.rules.specs.Rounds.{sentOut, roundTold, closed, openOf, closeOf}
 use Rattle.rules.specs.Calls.{callSite, badCall, mailClock, mailSlot, atHome, replyOf, askedAt, calledVisit, calledObject, called, invokeOf, emptyOf, deliverCallOf, deliverPhaseOneOf, deliverPhaseTwoOf, deliverAnswerOf, deliverBodyOf, lost, dropOf}
-use Rattle.rules.specs.Stations.{leftSite, isSwept, losesHome, crashedVisit, sweptSlot, crashedSlot}
+use Rattle.rules.specs.Stations.{isSwept, losesHome, crashedVisit, sweptSlot, crashedSlot}
 use Rattle.rules.specs.Passages.{beginOf, abortOf, retired, retireOf}
 use Rattle.rules.specs.Machine.{seenOf, bodyBank, turnSeen}
 use Rattle.rules.specs.RangesLaws.{set-keeps-at}

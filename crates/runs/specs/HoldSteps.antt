@@ -11,8 +11,8 @@ use lib.Seq.{getD-set-same, getD-set-other}
 use borrow.Author.Tests.{eqb-true, eq-eqb, ne-eqb}
 use Rattle.rules.specs.declared.tables.Holder.{Holder}
 use Rattle.rules.specs.declared.tables.Object.{Object}
-use Rattle.rules.specs.declared.answers.Check.{Check}
-use Rattle.rules.specs.declared.answers.Trip.{Trip}
+use Rattle.rules.specs.declared.outcomes.Check.{Check}
+use Rattle.rules.specs.declared.looking.Trip.{Trip}
 use Rattle.rules.specs.LoopsLaws.{cond-keeps, not-false}
 use Rattle.rules.specs.Tables.{pastObject, messageAt, bankAt, objectSite, slotOf}
 use Rattle.rules.specs.Answers.{isAccepted, firstOf, settleOf}
@@ -26,7 +26,7 @@ use Rattle.rules.specs.Machine.{lookOf, placesOf, seenOf, decideOf}
 use Rattle.rules.specs.Runs.{actsAtSite}
 use Rattle.rules.specs.StoredObjects.{each-at}
 use Rattle.rules.specs.Events.{bodyEvents, deliveredOf}
-use Rattle.runs.specs.Types.{Call, Told, Body, Tables, Step, Places, Seen}
+use Rattle.runs.specs.Types.{Call, Told, Body, Tables, Step, Places, Seen, Found}
 use Rattle.runs.specs.Put.{same-or-other}
 use Rattle.runs.specs.HeldStore.{Held}
 
@@ -250,26 +250,26 @@ quiet-did t step cs v left a trip d b e =
     })
 
 pub decided-did :
-    (t : Tables) (step : Step) (place : ℕ) (rest : Bool) → Held t
-    → isAccepted (decideOf step place rest (seenOf t (placesOf t (lookOf step))) .answer) ≡ true
-    → Did t step (decideOf step place rest (seenOf t (placesOf t (lookOf step))) .left)
+    (t : Tables) (step : Step) (found : Found) → Held t
+    → isAccepted (decideOf step found (seenOf t (placesOf t (lookOf step))) .answer) ≡ true
+    → Did t step (decideOf step found (seenOf t (placesOf t (lookOf step))) .left)
 unfolding deliveredOf placesOf decideOf tickOf sweepOf crashOf recoverOf beginOf abortOf retireOf refreshOf terminateOf prepareOf openOf askOf tellOf invokeOf dropOf
-decided-did t (Step.Tick site n) place rest k a = quiet-did t (Step.Tick site n) _ _ _ refl tt refl refl refl
-decided-did t (Step.Begin home slot q r) place rest k a = quiet-did t (Step.Begin home slot q r) _ _ _ refl tt refl refl refl
-decided-did t (Step.Invoke h site write object value) place rest k a = quiet-did t (Step.Invoke h site write object value) _ _ _ refl tt refl refl refl
-decided-did t (Step.Refresh h q r) place rest k a = quiet-did t (Step.Refresh h q r) _ _ _ refl tt refl refl refl
-decided-did t (Step.Terminate h) place rest k a = quiet-did t (Step.Terminate h) _ _ _ refl tt refl refl refl
-decided-did t (Step.Prepare h) place rest k a = quiet-did t (Step.Prepare h) _ _ _ refl tt refl refl refl
-decided-did t (Step.Ask h site) place rest k a = quiet-did t (Step.Ask h site) _ _ _ refl tt refl refl refl
-decided-did t (Step.Close h) place rest k a =
+decided-did t (Step.Tick site n) found k a = quiet-did t (Step.Tick site n) _ _ _ refl tt refl refl refl
+decided-did t (Step.Begin home slot q r) found k a = quiet-did t (Step.Begin home slot q r) _ _ _ refl tt refl refl refl
+decided-did t (Step.Invoke h site write object value) found k a = quiet-did t (Step.Invoke h site write object value) _ _ _ refl tt refl refl refl
+decided-did t (Step.Refresh h q r) found k a = quiet-did t (Step.Refresh h q r) _ _ _ refl tt refl refl refl
+decided-did t (Step.Terminate h) found k a = quiet-did t (Step.Terminate h) _ _ _ refl tt refl refl refl
+decided-did t (Step.Prepare h) found k a = quiet-did t (Step.Prepare h) _ _ _ refl tt refl refl refl
+decided-did t (Step.Ask h site) found k a = quiet-did t (Step.Ask h site) _ _ _ refl tt refl refl refl
+decided-did t (Step.Close h) found k a =
     let-go (record { acts = refl; trip = tt; delivers = refl; bank = refl; lets-go = close-lets-go h (seenOf t (placesOf t (lookOf (Step.Close h)))) })
-decided-did t (Step.Tell h site) place rest k a = quiet-did t (Step.Tell h site) _ _ _ refl tt refl refl refl
-decided-did t (Step.Abort h) place rest k a = quiet-did t (Step.Abort h) _ _ _ refl tt refl refl refl
-decided-did t (Step.Deliver m) place rest k a = delivered-did t m k _ refl a
-decided-did t (Step.Drop m) place rest k a =
+decided-did t (Step.Tell h site) found k a = quiet-did t (Step.Tell h site) _ _ _ refl tt refl refl refl
+decided-did t (Step.Abort h) found k a = quiet-did t (Step.Abort h) _ _ _ refl tt refl refl refl
+decided-did t (Step.Deliver m) found k a = delivered-did t m k _ refl a
+decided-did t (Step.Drop m) found k a =
     idle (record { acts = refl; trip = refl; stays = settled-stays _ _ (seenOf t (placesOf t (lookOf (Step.Drop m)))) _ refl })
-decided-did t (Step.Sweep site) place rest k a = quiet-did t (Step.Sweep site) _ _ _ refl refl refl refl refl
-decided-did t (Step.Crash site) place rest k a = quiet-did t (Step.Crash site) _ _ _ refl refl refl refl refl
-decided-did t (Step.Recover site) place rest k a = quiet-did t (Step.Recover site) _ _ _ refl tt refl refl refl
-decided-did t (Step.Retire h) place rest k a =
+decided-did t (Step.Sweep site) found k a = quiet-did t (Step.Sweep site) _ _ _ refl refl refl refl refl
+decided-did t (Step.Crash site) found k a = quiet-did t (Step.Crash site) _ _ _ refl refl refl refl refl
+decided-did t (Step.Recover site) found k a = quiet-did t (Step.Recover site) _ _ _ refl tt refl refl refl
+decided-did t (Step.Retire h) found k a =
     idle (record { acts = refl; trip = refl; stays = settled-stays _ _ (seenOf t (placesOf t (lookOf (Step.Retire h)))) _ refl })

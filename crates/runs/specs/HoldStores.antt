@@ -8,14 +8,14 @@ use lib.Dec.{eqb}
 use lib.ListN.{getD}
 use borrow.Author.Tests.{eq-eqb, ne-eqb}
 use Rattle.rules.specs.declared.tables.Object.{Object}
-use Rattle.rules.specs.declared.answers.Trip.{Trip}
+use Rattle.rules.specs.declared.looking.Trip.{Trip}
 use Rattle.rules.specs.Tables.{pastObject, bankAt, objectSite}
 use Rattle.rules.specs.RangesLaws.{placed-places, placed-trip}
 use Rattle.rules.specs.RangesKept.{turn-count-most}
 use Rattle.rules.specs.Answers.{isAccepted}
 use Rattle.rules.specs.Parts.{isHeldBy}
 use Rattle.rules.specs.Stations.{crashedSlot}
-use Rattle.rules.specs.Machine.{lookOf, placesOf, seenOf, remains, decideOf, stored, headOf, tripPlaces, turnOf, turnsUpTo, turnCount, stepOf}
+use Rattle.rules.specs.Machine.{lookOf, placesOf, seenOf, decideOf, stored, headOf, tripPlaces, turnOf, turnsUpTo, turnCount, stepOf, foundOf}
 use Rattle.rules.specs.StoredLaws.{Sized, Placed, turn-stored, stored-seen}
 use Rattle.rules.specs.Events.{isHolding}
 use Rattle.rules.specs.StoredObjects.{seen-object-at, object-after-stored, object-after-stored-other}
@@ -135,7 +135,7 @@ no-turns t step n a =
 -- the records that an accepted step leaves
 abbrev pub leftBy : Tables → Step → Seen
 leftBy t step =
-    decideOf step (placesOf t (lookOf step) .message) (remains t (placesOf t (lookOf step) .slot)) (seenOf t (placesOf t (lookOf step))) .left
+    decideOf step (foundOf t (placesOf t (lookOf step))) (seenOf t (placesOf t (lookOf step))) .left
 
 module _ (t : Tables) (step : Step) (z : Sized t) (a : isAccepted (stepOf t step .answer) ≡ true) where
   pub step-takes :

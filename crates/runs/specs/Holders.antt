@@ -6,7 +6,7 @@ use mathlib.Core.Bool.{Bool, true}
 use mathlib.Core.List.{List}
 use Rattle.rules.specs.declared.tables.Holder.{Holder}
 use Rattle.rules.specs.declared.tables.Object.{Object}
-use Rattle.rules.specs.declared.answers.Trip.{Trip}
+use Rattle.rules.specs.declared.looking.Trip.{Trip}
 use Rattle.rules.specs.Tables.{pastObject, objectAt, visitAt, messageAt, objectSite, noObject, noMessage, pastMessage, start}
 use Rattle.rules.specs.Rounds.{refreshOf, terminateOf, prepareOf, askOf, tellOf}
 use Rattle.rules.specs.Stations.{tickOf, sweepOf, crashOf, recoverOf}
@@ -14,7 +14,7 @@ use Rattle.rules.specs.Machine.{lookOf, placesOf, seenOf, decideOf, headOf, tri
 use Rattle.rules.specs.StoredLaws.{turn-stored}
 use Rattle.rules.specs.RangesLaws.{placed-places, placed-trip}
 use Rattle.rules.specs.Runs.{runOf}
-use Rattle.runs.specs.Types.{Call, Body, Message, Tables, Step, Outcome}
+use Rattle.runs.specs.Types.{Call, Body, Message, Tables, Step, Outcome, Found}
 use Rattle.runs.specs.Plain.{repeat-has}
 use Rattle.runs.specs.Sizes.{step-holds, run-holds, sized-start}
 use Rattle.runs.specs.Banks.{nobody-holds}
@@ -24,29 +24,29 @@ use Rattle.runs.specs.HeldSteps.{no-call, station-keeps, begin-keeps, re
 -- ---- every step and every turn
 
 decided-keeps :
-    (t : Tables) (step : Step) (place : ℕ) (rest : Bool) → Held t
-    → Keeps t (placesOf t (lookOf step)) (decideOf step place rest (seenOf t (placesOf t (lookOf step))) .left)
+    (t : Tables) (step : Step) (found : Found) → Held t
+    → Keeps t (placesOf t (lookOf step)) (decideOf step found (seenOf t (placesOf t (lookOf step))) .left)
 unfolding placesOf decideOf tickOf refreshOf terminateOf prepareOf askOf tellOf sweepOf crashOf recoverOf
-decided-keeps t (Step.Tick site n) place rest k = station-keeps t _ k _ _ _
-decided-keeps t (Step.Begin home slot q r) place rest k = begin-keeps t _ k home slot q r
-decided-keeps t (Step.Invoke h site write object value) place rest k = invoke-keeps t _ k h site write object value place
-decided-keeps t (Step.Refresh h q r) place rest k = open-keeps t _ k h _ _ _
-decided-keeps t (Step.Terminate h) place rest k = open-keeps t _ k h _ _ _
-decided-keeps t (Step.Prepare h) place rest k = open-keeps t _ k h _ _ _
-decided-keeps t (Step.Ask h site) place rest k = sent-keeps t _ k _ _ _ h site _ refl
-decided-keeps t (Step.Close h) place rest k = close-keeps t _ k h refl refl
-decided-keeps t (Step.Tell h site) place rest k = sent-keeps t _ k _ _ _ h site _ refl
-decided-keeps t (Step.Abort h) place rest k = abort-keeps t _ k h
-decided-keeps t (Step.Deliver m) place rest k = deliver-keeps t _ k _ m refl refl refl refl
-decided-keeps t (Step.Drop m) place rest k = drop-keeps t _ k m
-decided-keeps t (Step.Sweep site) place rest k = station-keeps t _ k _ _ _
-decided-keeps t (Step.Crash site) place rest k = station-keeps t _ k _ _ _
-decided-keeps t (Step.Recover site) place rest k = station-keeps t _ k _ _ _
-decided-keeps t (Step.Retire h) place rest k = retire-keeps t _ k h rest
+decided-keeps t (Step.Tick site n) found k = station-keeps t _ k _ _ _
+decided-keeps t (Step.Begin home slot q r) found k = begin-keeps t _ k home slot q r
+decided-keeps t (Step.Invoke h site write object value) found k = invoke-keeps t _ k h site write object value (found .place)
+decided-keeps t (Step.Refresh h q r) found k = open-keeps t _ k h _ _ _
+decided-keeps t (Step.Terminate h) found k = open-keeps t _ k h _ _ _
+decided-keeps t (Step.Prepare h) found k = open-keeps t _ k h _ _ _
+decided-keeps t (Step.Ask h site) found k = sent-keeps t _ k _ _ _ h site _ refl
+decided-keeps t (Step.Close h) found k = close-keeps t _ k h refl refl
+decided-keeps t (Step.Tell h site) found k = sent-keeps t _ k _ _ _ h site _ refl
+decided-keeps t (Step.Abort h) found k = abort-keeps t _ k h
+decided-keeps t (Step.Deliver m) found k = deliver-keeps t _ k _ m refl refl refl refl
+decided-keeps t (Step.Drop m) found k = drop-keeps t _ k m
+decided-keeps t (Step.Sweep site) found k = station-keeps t _ k _ _ _
+decided-keeps t (Step.Crash site) found k = station-keeps t _ k _ _ _
+decided-keeps t (Step.Recover site) found k = station-keeps t _ k _ _ _
+decided-keeps t (Step.Retire h) found k = retire-keeps t _ k h (found .remains)
 
 held-head : (t : Tables) (step : Step) → Held t → Held (headOf t step .tables)
 unfolding headOf
-held-head t step k = held-stored t _ _ k (placed-places t (lookOf step)) (decided-keeps t step _ _ k)
+held-head t step k = held-stored t _ _ k (placed-places t (lookOf step)) (decided-keeps t step _ k)
 
 held-turn : (trip : Trip) (slot : ℕ) (o : Outcome) → slot < 16 → Held (o .tables) → Held (turnOf trip slot o .tables)
 held-turn trip slot o l k =

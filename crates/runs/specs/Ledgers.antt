@@ -18,10 +18,10 @@ use Rattle.rules.specs.Stations.{tickOf, tickDone, sweepOf, sweepDone, crashOf,
 use Rattle.rules.specs.Passages.{beginOf, beginDone, abortOf, abortDone, retireOf, retireDone}
 use Rattle.rules.specs.Rounds.{refreshOf, terminateOf, prepareOf, openOf, openDone, askOf, askDone, closeOf, closeDone, tellOf, tellDone}
 use Rattle.rules.specs.Calls.{invokeOf, invokeDone, dropOf, dropDone}
-use Rattle.rules.specs.Machine.{lookOf, placesOf, seenOf, remains, decideOf, headOf, tripPlaces, turnSeen, turnOf}
+use Rattle.rules.specs.Machine.{lookOf, placesOf, seenOf, remains, decideOf, headOf, tripPlaces, turnSeen, turnOf, foundOf}
 use Rattle.rules.specs.Runs.{runOf}
 use Rattle.runs.specs.Types.{Kind, Passage, Body, Tables, Step, Places, Seen, Outcome}
-use Rattle.rules.specs.declared.answers.Trip.{Trip}
+use Rattle.rules.specs.declared.looking.Trip.{Trip}
 use Rattle.runs.specs.Plain.{repeat-has}
 use Rattle.runs.specs.View.{Ledger, mailOf, viewOf, noLedger}
 use Rattle.runs.specs.Clauses.{Holds}
@@ -51,7 +51,7 @@ headLedgers t step ls =
     ls
     (placesAt t step)
     (seenAt t step)
-    (decideOf step (placesAt t step .message) (remains t (placesAt t step .slot)) (seenAt t step) .left)
+    (decideOf step (foundOf t (placesAt t step)) (seenAt t step) .left)
 
 abbrev pub turnLedgers : Trip → ℕ → Tables → (ℕ → Ledger) → ℕ → Ledger
 turnLedgers trip slot t ls =
@@ -83,12 +83,12 @@ module _ (t : Tables) (range : inRange t ≡ true) where
   decided-fits :
       (step : Step)
       → isAccepted
-      (decideOf step (placesAt t step .message) (remains t (placesAt t step .slot)) (seenAt t step) .answer)
+      (decideOf step (foundOf t (placesAt t step)) (seenAt t step) .answer)
       ≡ true
       → Fitting
       t
       (placesAt t step)
-      (decideOf step (placesAt t step .message) (remains t (placesAt t step .slot)) (seenAt t step) .left)
+      (decideOf step (foundOf t (placesAt t step)) (seenAt t step) .left)
   unfolding decideOf tickOf sweepOf crashOf recoverOf beginOf abortOf retireOf refreshOf terminateOf prepareOf openOf askOf closeOf tellOf invokeOf dropOf
   decided-fits (Step.Tick site n) e =
       settled-fits t (placesAt t (Step.Tick site n)) (tickDone site n (seenAt t (Step.Tick site n))) e (site-fits t (placesAt t (Step.Tick site n)) _ (omega arith))
@@ -138,7 +138,6 @@ head-kept t step ls k e =
           (k .range)
           (decided-in-range
           step
-          _
           _
           _
           (seen-in-range t (placesAt t step) (k .range) (placed-places t (lookOf step))));

@@ -11,7 +11,7 @@ use Rattle.rules.specs.Checks.{badHandle, badTimes}
 use Rattle.rules.specs.Parts.{isOver, isActive, isRunning, isAborted, nextClock, askedOf, askedVisit, askedStatus}
 use Rattle.rules.specs.Rounds.{openChecks, openedPassage, openDone}
 use Rattle.rules.specs.Machine.{looksHome, placesOf, seenOf}
-use Rattle.rules.specs.declared.answers.MailAt.{MailAt}
+use Rattle.rules.specs.declared.looking.MailAt.{MailAt}
 use Rattle.runs.specs.Types.{Kind, Status, Tables}
 use Rattle.runs.specs.Put.{put, put-same}
 use Rattle.runs.specs.View.{View, Ledger, viewOf, noted}

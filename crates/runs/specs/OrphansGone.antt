@@ -12,7 +12,7 @@ use Rattle.rules.specs.Parts.{isEmpty}
 use Rattle.rules.specs.Answers.{isAccepted}
 use Rattle.rules.specs.Machine.{isMessageOf, stepOf}
 use Rattle.rules.specs.Runs.{runOf, historyOf}
-use Rattle.rules.specs.declared.answers.Trip.{Trip}
+use Rattle.rules.specs.declared.looking.Trip.{Trip}
 use Rattle.runs.specs.Types.{Status, Visit, Tables, Step, Outcome}
 use Rattle.runs.specs.View.{viewOf}
 use Rattle.runs.specs.Clauses.{Holds}

@@ -7,8 +7,8 @@ use mathlib.Core.Bool.{Bool, true, false, not, _&&_, _||_, true≢false, cond}
 use mathlib.Core.List.{List}
 use lib.Dec.{eqb, leb}
 use borrow.Author.Tests.{eq-eqb}
-use Rattle.rules.specs.declared.answers.Trip.{Trip}
-use Rattle.rules.specs.declared.answers.Check.{Check}
+use Rattle.rules.specs.declared.looking.Trip.{Trip}
+use Rattle.rules.specs.declared.outcomes.Check.{Check}
 use Rattle.rules.specs.LoopsLaws.{either, cond-keeps}
 use Rattle.rules.specs.Tables.{start, passageAt, visitAt, messageAt, slotOf}
 use Rattle.rules.specs.Answers.{isAccepted, firstOf, settleOf}
@@ -24,7 +24,7 @@ use Rattle.rules.specs.RefusedLaws.{refused-leaves}
 use Rattle.rules.specs.Record.{flatOf, isStep}
 use Rattle.rules.specs.Runs.{runOf}
 use Rattle.rules.specs.Views.{settled, Marks, Mail, mailOf, deedOf}
-use Rattle.runs.specs.Types.{Kind, Visit, Told, Body, Message, Tables, Step, Places, Seen, Outcome}
+use Rattle.runs.specs.Types.{Kind, Visit, Told, Body, Message, Tables, Step, Places, Seen, Outcome, Found}
 use Rattle.runs.specs.Put.{same-or-other}
 use Rattle.runs.specs.TimesKept.{asked-says}
 use Rattle.runs.specs.Rests.{isPrepare, carriesCommit}
@@ -105,14 +105,14 @@ word-here a b c f = rw (eq-eqb a a refl, eq-eqb b b refl) at f
 
 -- what a step leaves there, and prepared where it goes on to sweep
 marked-firm :
-    (t : Tables) (step : Step) (place : ℕ) (rest : Bool) → Marks step → Promised t (placesOf t (lookOf step) .site) (placesOf t (lookOf step) .slot)
+    (t : Tables) (step : Step) (found : Found) → Marks step → Promised t (placesOf t (lookOf step) .site) (placesOf t (lookOf step) .slot)
     → isWord t (placesOf t (lookOf step) .site) (placesOf t (lookOf step) .slot) step ≡ false
-    → Firm (lookOf step .trip) (decideOf step place rest (seenOf t (placesOf t (lookOf step))) .left .visit)
+    → Firm (lookOf step .trip) (decideOf step found (seenOf t (placesOf t (lookOf step))) .left .visit)
 unfolding placesOf decideOf beginOf abortOf terminateOf prepareOf openOf closeOf
-marked-firm t _ place rest (Marks.Begins home slot q r) k f = settled-firm Trip.Nowhere _ _ _ _ refl (k .there)
-marked-firm t _ place rest (Marks.Terminates h) k f = settled-firm Trip.Nowhere _ _ _ _ (k .there) (k .there)
-marked-firm t _ place rest (Marks.Prepares h) k f = settled-firm Trip.Nowhere _ _ _ _ (k .there) (k .there)
-marked-firm t _ place rest (Marks.Closes h) k f =
+marked-firm t _ found (Marks.Begins home slot q r) k f = settled-firm Trip.Nowhere _ _ _ _ refl (k .there)
+marked-firm t _ found (Marks.Terminates h) k f = settled-firm Trip.Nowhere _ _ _ _ (k .there) (k .there)
+marked-firm t _ found (Marks.Prepares h) k f = settled-firm Trip.Nowhere _ _ _ _ (k .there) (k .there)
+marked-firm t _ found (Marks.Closes h) k f =
     settled-firm
     Trip.Nowhere
     _
@@ -121,8 +121,8 @@ marked-firm t _ place rest (Marks.Closes h) k f =
     _
     (changed-there _ _ (k .there) (closed-there (passageAt t (slotOf h) .round .kind) _ _ (k .there) (word-here (slotOf h) (passageAt t (slotOf h) .home % 8) _ f)))
     (k .there)
-marked-firm t _ place rest (Marks.Aborts h) k f = settled-firm Trip.Nowhere _ _ _ _ (changed-there _ _ (k .there) (k .there)) (k .there)
-marked-firm t _ place rest (Marks.Delivers m) k f =
+marked-firm t _ found (Marks.Aborts h) k f = settled-firm Trip.Nowhere _ _ _ _ (changed-there _ _ (k .there) (k .there)) (k .there)
+marked-firm t _ found (Marks.Delivers m) k f =
     mail-there
     (messageAt t (m % 32) .body)
     m
@@ -130,15 +130,15 @@ marked-firm t _ place rest (Marks.Delivers m) k f =
     (mailOf (messageAt t (m % 32) .body))
     (k .there)
     (word-here (slotOf (messageAt t (m % 32) .handle)) (messageAt t (m % 32) .destination % 8) _ f)
-marked-firm t _ place rest (Marks.Stay step there prepared) k f =
+marked-firm t _ found (Marks.Stay step there prepared) k f =
     let seen = seenOf t (placesOf t (lookOf step)) in
-    firm (lookOf step .trip) (decideOf step place rest seen .left .visit) (there place rest seen ∙ k .there) (prepared place rest seen ∙ k .prepared)
+    firm (lookOf step .trip) (decideOf step found seen .left .visit) (there found seen ∙ k .there) (prepared found seen ∙ k .prepared)
 
 decided-firm :
-    (t : Tables) (step : Step) (place : ℕ) (rest : Bool) → Promised t (placesOf t (lookOf step) .site) (placesOf t (lookOf step) .slot)
+    (t : Tables) (step : Step) (found : Found) → Promised t (placesOf t (lookOf step) .site) (placesOf t (lookOf step) .slot)
     → isWord t (placesOf t (lookOf step) .site) (placesOf t (lookOf step) .slot) step ≡ false
-    → Firm (lookOf step .trip) (decideOf step place rest (seenOf t (placesOf t (lookOf step))) .left .visit)
-decided-firm t step place rest = marked-firm t step place rest (deedOf step .marks)
+    → Firm (lookOf step .trip) (decideOf step found (seenOf t (placesOf t (lookOf step))) .left .visit)
+decided-firm t step found = marked-firm t step found (deedOf step .marks)
 
 -- ---- what one slot of a sweep or of a crash leaves of its visit
 
@@ -196,7 +196,7 @@ module _ (s p : ℕ) (slot : p < 16) where
       s
       p
       slot
-      (λ a b. decided-firm t step _ _ (subst₂ (λ (x y : ℕ). Promised t x y) a b k) (subst₂ (λ (x y : ℕ). isWord t x y step ≡ false) a b f))
+      (λ a b. decided-firm t step _ (subst₂ (λ (x y : ℕ). Promised t x y) a b k) (subst₂ (λ (x y : ℕ). isWord t x y step ≡ false) a b f))
       (firm (lookOf step .trip) (visitAt t s p) (k .there) (k .prepared))
 
   turn-firm :

@@ -8,8 +8,8 @@ use mathlib.Core.Bool.{Bool, false}
 use mathlib.Core.List.{List}
 use lib.ListN.{getD}
 use Rattle.rules.specs.declared.tables.Object.{Object}
-use Rattle.rules.specs.declared.answers.Check.{Check}
-use Rattle.rules.specs.declared.answers.Trip.{Trip}
+use Rattle.rules.specs.declared.outcomes.Check.{Check}
+use Rattle.rules.specs.declared.looking.Trip.{Trip}
 use Rattle.rules.specs.LoopsLaws.{cond-keeps}
 use Rattle.rules.specs.Tables.{pastObject, objectAt, bankAt, objectSite, slotOf}
 use Rattle.rules.specs.RangesLaws.{placed-places, placed-trip}
@@ -22,7 +22,7 @@ use Rattle.rules.specs.Machine.{lookOf, placesOf, seenOf, decideOf, stored, hea
 use Rattle.rules.specs.StoredLaws.{Sized, Placed, turn-stored}
 use Rattle.rules.specs.StoredObjects.{seen-object-at, object-after-stored, object-after-stored-other, each-at}
 use Rattle.rules.specs.Views.{settled, Objects, Mail, mailOf, deedOf}
-use Rattle.runs.specs.Types.{Kind, Call, Told, Body, Tables, Step, Outcome, Places, Seen}
+use Rattle.runs.specs.Types.{Kind, Call, Told, Body, Tables, Step, Outcome, Places, Seen, Found}
 use Rattle.runs.specs.Put.{same-or-other}
 use Rattle.runs.specs.Sizes.{sized-step-has}
 use Rattle.runs.specs.Ledgers.{seenAt}
@@ -109,17 +109,17 @@ mail-stand _ m seen (Mail.Tells n told) =
 mail-stand _ m seen (Mail.Quiet body objects visit) = same-stand (carriesCommit body) (seen .objects) _ (objects m seen)
 
 seen-stand :
-    (step : Step) (place : ℕ) (rest : Bool) (seen : Seen) → Objects step
-    → AllStand (commits step seen) (seen .objects) (decideOf step place rest seen .left .objects)
+    (step : Step) (found : Found) (seen : Seen) → Objects step
+    → AllStand (commits step seen) (seen .objects) (decideOf step found seen .left .objects)
 unfolding decideOf
-seen-stand _ place rest seen (Objects.Closes h) = close-stand h seen
-seen-stand _ place rest seen (Objects.Delivers m) = mail-stand (seen .message .body) m seen (mailOf (seen .message .body))
-seen-stand _ place rest seen (Objects.Stay step c d stay) = same-stand (commits step seen) (seen .objects) _ (stay place rest seen)
+seen-stand _ found seen (Objects.Closes h) = close-stand h seen
+seen-stand _ found seen (Objects.Delivers m) = mail-stand (seen .message .body) m seen (mailOf (seen .message .body))
+seen-stand _ found seen (Objects.Stay step c d stay) = same-stand (commits step seen) (seen .objects) _ (stay found seen)
 
 decided-stand :
-    (step : Step) (place : ℕ) (rest : Bool) (seen : Seen)
-    → AllStand (commits step seen) (seen .objects) (decideOf step place rest seen .left .objects)
-decided-stand step place rest seen = seen-stand step place rest seen (deedOf step .objects)
+    (step : Step) (found : Found) (seen : Seen)
+    → AllStand (commits step seen) (seen .objects) (decideOf step found seen .left .objects)
+decided-stand step found seen = seen-stand step found seen (deedOf step .objects)
 
 -- ---- the store
 
@@ -159,7 +159,7 @@ head-stands t step z =
     _
     z
     (placed-places t (lookOf step))
-    (decided-stand step _ _ (seenAt t step))
+    (decided-stand step _ (seenAt t step))
 
 -- ---- the turns of a sweep and of a crash
 

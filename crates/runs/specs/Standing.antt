@@ -7,8 +7,8 @@ use mathlib.Core.List.{List, [], _∷_, _++_}
 use lib.Dec.{eqb}
 use borrow.Author.Tests.{eq-eqb}
 use Rattle.rules.specs.declared.tables.Holder.{Holder}
-use Rattle.rules.specs.declared.answers.Trip.{Trip}
-use Rattle.rules.specs.declared.answers.Check.{Check}
+use Rattle.rules.specs.declared.looking.Trip.{Trip}
+use Rattle.rules.specs.declared.outcomes.Check.{Check}
 use Rattle.rules.specs.LoopsLaws.{either, or-left, or-right, not-false, cond-keeps}
 use Rattle.rules.specs.Tables.{start, objectAt, passageAt, visitAt, messageAt, objectSite, slotOf}
 use Rattle.rules.specs.Answers.{isAccepted, firstOf, settleOf}
@@ -25,7 +25,7 @@ use Rattle.rules.specs.RefusedLaws.{refused-leaves}
 use Rattle.rules.specs.Record.{flatOf, isStep}
 use Rattle.rules.specs.Runs.{runOf}
 use Rattle.rules.specs.Views.{settled, Marks, Mail, mailOf, Goes, deedOf}
-use Rattle.runs.specs.Types.{Kind, Passage, Visit, Asked, Told, Body, Message, Tables, Step, Places, Seen, Outcome}
+use Rattle.runs.specs.Types.{Kind, Passage, Visit, Asked, Told, Body, Message, Tables, Step, Places, Seen, Outcome, Found}
 use Rattle.runs.specs.Put.{same-or-other}
 use Rattle.runs.specs.LifeFits.{free-says}
 use Rattle.runs.specs.Steps.{run-on}
@@ -117,16 +117,16 @@ home-here a b f = true≢false (rw (eq-eqb a a refl, eq-eqb b b refl) at f)
 
 -- a slot in use is not begun
 marked-stands :
-    (t : Tables) (step : Step) (place : ℕ) (rest : Bool) → Marks step → Stands (visitAt t (placesOf t (lookOf step) .site) (placesOf t (lookOf step) .slot))
+    (t : Tables) (step : Step) (found : Found) → Marks step → Stands (visitAt t (placesOf t (lookOf step) .site) (placesOf t (lookOf step) .slot))
     → isFree (passageAt t (placesOf t (lookOf step) .slot) .status) ≡ false
     → letsOff t (placesOf t (lookOf step) .site) (placesOf t (lookOf step) .slot) step ≡ false
-    → Stands (decideOf step place rest (seenOf t (placesOf t (lookOf step))) .left .visit)
+    → Stands (decideOf step found (seenOf t (placesOf t (lookOf step))) .left .visit)
 unfolding placesOf decideOf beginOf abortOf terminateOf prepareOf openOf closeOf
-marked-stands t _ place rest (Marks.Begins home slot q r) k u f =
+marked-stands t _ found (Marks.Begins home slot q r) k u f =
     settled-stands _ _ _ _ (λ g. absurd (true≢false (sym (not-false (isFree (passageAt t (slotOf slot) .status)) (g .state)) ∙ u))) k
-marked-stands t _ place rest (Marks.Terminates h) k u f = absurd (home-here (slotOf h) (passageAt t (slotOf h) .home % 8) f)
-marked-stands t _ place rest (Marks.Prepares h) k u f = settled-stands _ _ _ _ (λ g. (k .0, refl)) k
-marked-stands t _ place rest (Marks.Closes h) k u f =
+marked-stands t _ found (Marks.Terminates h) k u f = absurd (home-here (slotOf h) (passageAt t (slotOf h) .home % 8) f)
+marked-stands t _ found (Marks.Prepares h) k u f = settled-stands _ _ _ _ (λ g. (k .0, refl)) k
+marked-stands t _ found (Marks.Closes h) k u f =
     settled-stands
     _
     _
@@ -134,8 +134,8 @@ marked-stands t _ place rest (Marks.Closes h) k u f =
     _
     (λ g. closed-stands (passageAt t (slotOf h) .round .kind) _ _ k (word-here (slotOf h) (passageAt t (slotOf h) .home % 8) _ f))
     k
-marked-stands t _ place rest (Marks.Aborts h) k u f = absurd (home-here (slotOf h) (passageAt t (slotOf h) .home % 8) f)
-marked-stands t _ place rest (Marks.Delivers m) k u f =
+marked-stands t _ found (Marks.Aborts h) k u f = absurd (home-here (slotOf h) (passageAt t (slotOf h) .home % 8) f)
+marked-stands t _ found (Marks.Delivers m) k u f =
     mail-stands
     (messageAt t (m % 32) .body)
     m
@@ -143,16 +143,16 @@ marked-stands t _ place rest (Marks.Delivers m) k u f =
     (mailOf (messageAt t (m % 32) .body))
     k
     (word-here (slotOf (messageAt t (m % 32) .handle)) (messageAt t (m % 32) .destination % 8) _ f)
-marked-stands t _ place rest (Marks.Stay step there prepared) k u f =
+marked-stands t _ found (Marks.Stay step there prepared) k u f =
     let seen = seenOf t (placesOf t (lookOf step)) in
-    (there place rest seen ∙ k .0, prepared place rest seen ∙ k .1)
+    (there found seen ∙ k .0, prepared found seen ∙ k .1)
 
 decided-stands :
-    (t : Tables) (step : Step) (place : ℕ) (rest : Bool) → Stands (visitAt t (placesOf t (lookOf step) .site) (placesOf t (lookOf step) .slot))
+    (t : Tables) (step : Step) (found : Found) → Stands (visitAt t (placesOf t (lookOf step) .site) (placesOf t (lookOf step) .slot))
     → isFree (passageAt t (placesOf t (lookOf step) .slot) .status) ≡ false
     → letsOff t (placesOf t (lookOf step) .site) (placesOf t (lookOf step) .slot) step ≡ false
-    → Stands (decideOf step place rest (seenOf t (placesOf t (lookOf step))) .left .visit)
-decided-stands t step place rest = marked-stands t step place rest (deedOf step .marks)
+    → Stands (decideOf step found (seenOf t (placesOf t (lookOf step))) .left .visit)
+decided-stands t step found = marked-stands t step found (deedOf step .marks)
 
 -- ---- what one slot of a sweep or of a crash leaves of its visit and its passage
 
@@ -216,7 +216,6 @@ module _ (s p : ℕ) (slot : p < 16) where
       decided-stands
       t
       step
-      _
       _
       (subst₂ (λ (x y : ℕ). Stands (visitAt t x y)) a b (k .there, k .prepared))
       (subst (λ (y : ℕ). isFree (passageAt t y .status) ≡ false) b u)

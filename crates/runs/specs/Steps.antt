@@ -15,7 +15,7 @@ use Rattle.rules.specs.RefusedLaws.{refused-leaves, turns-keep, record-is-step}
 use Rattle.rules.specs.Record.{stepOfRecord, readingOf, recordInRangeOf, stepRecordOf}
 use Rattle.rules.specs.Runs.{runOf, runRecordsOf}
 use Rattle.runs.specs.Types.{Tables, Step, Outcome}
-use Rattle.rules.specs.declared.answers.Trip.{Trip}
+use Rattle.rules.specs.declared.looking.Trip.{Trip}
 use Rattle.rules.specs.declared.steps.Reading.{Reading}
 
 -- ---- a ghost along a run: what an accepted step's own store does to it, and what each slot's turn does

@@ -14,7 +14,7 @@ use Rattle.rules.specs.StoredLaws.{Sized, turn-stored, visit-place-same, site-a
 use Rattle.rules.specs.RangesLaws.{placed-trip}
 use Rattle.rules.specs.Stations.{isSwept, sweptSlot}
 use Rattle.rules.specs.Machine.{seenOf, stored, headOf, tripPlaces, turnOf, stepOf}
-use Rattle.rules.specs.declared.answers.Trip.{Trip}
+use Rattle.rules.specs.declared.looking.Trip.{Trip}
 use Rattle.runs.specs.Types.{Site, Visit, Tables, Step, Places, Outcome, Seen}
 use Rattle.runs.specs.Put.{same-or-other}
 use Rattle.runs.specs.Sizes.{sized-accepted-has}

@@ -14,9 +14,10 @@ pub use Rattle.rules.specs.declared.tables.Body.{Body}
 pub use Rattle.rules.specs.declared.tables.Message.{Message}
 pub use Rattle.rules.specs.declared.tables.Tables.{Tables}
 pub use Rattle.rules.specs.declared.steps.Step.{Step}
-pub use Rattle.rules.specs.declared.answers.Answer.{Answer}
-pub use Rattle.rules.specs.declared.answers.Look.{Look}
-pub use Rattle.rules.specs.declared.answers.Places.{Places}
-pub use Rattle.rules.specs.declared.answers.Seen.{Seen}
-pub use Rattle.rules.specs.declared.answers.Decision.{Decision}
-pub use Rattle.rules.specs.declared.answers.Outcome.{Outcome}
+pub use Rattle.rules.specs.declared.outcomes.Answer.{Answer}
+pub use Rattle.rules.specs.declared.looking.Look.{Look}
+pub use Rattle.rules.specs.declared.looking.Places.{Places}
+pub use Rattle.rules.specs.declared.looking.Found.{Found}
+pub use Rattle.rules.specs.declared.looking.Seen.{Seen}
+pub use Rattle.rules.specs.declared.outcomes.Decision.{Decision}
+pub use Rattle.rules.specs.declared.outcomes.Outcome.{Outcome}

@@ -4,7 +4,7 @@ use native.Mathlib.Omega.{arith}
 use mathlib.Core.Path.{_≡_, refl}
 use mathlib.Core.Bool.{true, false, not, _&&_, _||_, false≢true}
 use mathlib.Core.List.{List}
-use Rattle.rules.specs.declared.answers.Trip.{Trip}
+use Rattle.rules.specs.declared.looking.Trip.{Trip}
 use Rattle.rules.specs.LoopsLaws.{and-left}
 use Rattle.rules.specs.Tables.{start, passageAt, visitPlace, pastPassage, pastVisit, pastMessage, noVisit, noMessage, freeSlot}
 use Rattle.rules.specs.Answers.{isAccepted, settleOf}
@@ -15,7 +15,7 @@ use Rattle.rules.specs.Stations.{tickOf, tickDone, sweepOf, sweepDone, crashOf,
 use Rattle.rules.specs.Passages.{beginOf, beginDone, abortOf, abortDone, retireOf, retireDone}
 use Rattle.rules.specs.Rounds.{refreshOf, terminateOf, prepareOf, openOf, openDone, askOf, askDone, closeOf, closeDone, tellOf, tellDone}
 use Rattle.rules.specs.Calls.{invokeOf, invokeDone, dropOf, dropDone}
-use Rattle.rules.specs.Machine.{lookOf, placesOf, seenOf, remains, decideOf, headOf, tripPlaces, turnOf}
+use Rattle.rules.specs.Machine.{lookOf, placesOf, seenOf, remains, decideOf, headOf, tripPlaces, turnOf, foundOf}
 use Rattle.rules.specs.StoredLaws.{Sized, turn-stored}
 use Rattle.rules.specs.RangesLaws.{placed-places, placed-trip}
 use Rattle.rules.specs.Runs.{runOf}
@@ -61,7 +61,7 @@ module _ (latest site : ℕ) (t : Tables) (g : Known) where
   decided-guards :
       (step : Step) → Sized t
       → isAccepted
-      (decideOf step (placesAt t step .message) (remains t (placesAt t step .slot)) (seenAt t step) .answer)
+      (decideOf step (foundOf t (placesAt t step)) (seenAt t step) .answer)
       ≡ true
       → Guards
       latest
@@ -70,7 +70,7 @@ module _ (latest site : ℕ) (t : Tables) (g : Known) where
       (placesAt t step)
       g
       (λ p. knownHead p t step g)
-      (decideOf step (placesAt t step .message) (remains t (placesAt t step .slot)) (seenAt t step) .left)
+      (decideOf step (foundOf t (placesAt t step)) (seenAt t step) .left)
   unfolding placesOf decideOf tickOf sweepOf crashOf recoverOf beginOf abortOf retireOf refreshOf terminateOf prepareOf openOf askOf closeOf tellOf invokeOf dropOf
   decided-guards (Step.Tick a n) z e =
       settled-keeps (placesAt t (Step.Tick a n)) (tickDone a n (seenAt t (Step.Tick a n))) e (site-keeps latest t (placesAt t (Step.Tick a n)) _ (omega arith))

@@ -1,5 +1,5 @@
 // Numbers and words into the bytes of a record.
-use words::grammar::Slot;
+use words::rows::Slot;
 ghost use Prim.Native.Nat.{_+_, _≤_, _<_};
 ghost use mathlib.Core.Path.{_≡_};
 ghost use Rattle.words.specs.Grammar.{mostIn, said, putOne, putTwo, putFour, stored};

@@ -6,16 +6,16 @@ use checks::or_else;
 use checks::refuse;
 use checks::settle;
 use checks::site_down;
-use parts::objects::restored_all;
-use parts::passages::aborted_passage;
-use parts::passages::is_active;
+use parts::object::restored_all;
+use parts::passage::aborted_passage;
+use parts::passage::is_active;
 use parts::seen::left_site;
-use parts::visits::clock_to;
-use parts::visits::no_visit;
-use rules::answers::Decision;
-use rules::answers::Refusal;
-use rules::answers::Seen;
+use parts::visit::clock_to;
+use parts::visit::no_visit;
 use rules::limits::TICK_MOST;
+use rules::looking::Seen;
+use rules::outcomes::Decision;
+use rules::outcomes::Refusal;
 use rules::tables::Passage;
 ghost use mathlib.Core.Path.{_≡_};
 ghost use Rattle.rules.specs.Sane.{Sane};
@@ -78,20 +78,16 @@ pub fn swept_slot(site: u8, slot: u8, seen: Seen) -> Seen
     ensures { λ r. ⌜ r ≡ sweptSlot site slot seen ⌝ }
 {
     if is_swept(seen) {
-        let s = seen.site;
         let old = seen.passage;
         let passage = swept_passage(site, old);
         let visit = no_visit();
-        let message = seen.message;
         let held = seen.objects;
         let objects = restored_all(slot, held);
-        Seen {
-            site: s,
-            passage: passage,
-            visit: visit,
-            message: message,
-            objects: objects,
-        }
+        let mut left = seen;
+        left.passage = passage;
+        left.visit = visit;
+        left.objects = objects;
+        left
     } else {
         seen
     }

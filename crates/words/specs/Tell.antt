@@ -3,7 +3,7 @@ use Prim.Native.Nat.{ℕ, zero, suc, _+_, _/_}
 use Prim.Native.String.{String}
 use mathlib.Core.List.{List, [], _∷_, _++_}
 use lib.ListN.{length, getD}
-use Rattle.rules.specs.declared.answers.Answer.{Answer}
+use Rattle.rules.specs.declared.outcomes.Answer.{Answer}
 use Rattle.rules.specs.declared.steps.SheetAnswer.{SheetAnswer}
 use Rattle.rules.specs.Answers.{refusalNumber}
 use Rattle.rules.specs.Record.{stepRecordOf}

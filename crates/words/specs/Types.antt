@@ -1,6 +1,6 @@
 -- The types of src/ and of the steps, under short names. Assumes nothing.
-pub use Rattle.words.specs.declared.grammar.Edge.{Edge}
-pub use Rattle.words.specs.declared.grammar.Slot.{Slot}
+pub use Rattle.words.specs.declared.rows.Edge.{Edge}
+pub use Rattle.words.specs.declared.rows.Slot.{Slot}
 pub use Rattle.words.specs.declared.scan.Fault.{Fault}
 pub use Rattle.words.specs.declared.scan.Mode.{Mode}
 pub use Rattle.words.specs.declared.scan.Scan.{Scan}

@@ -1,20 +1,21 @@
 -- A record's work, turn by turn: the first turn is the step's own, turn k + 1 of a sweep or a crash is that of slot k. Assumes nothing.
 use Prim.Native.Nat.{ℕ, zero, suc, _-_}
-use mathlib.Core.Bool.{Bool, cond}
+use mathlib.Core.Bool.{cond}
 use lib.Dec.{eqb}
 use Rattle.rules.specs.declared.tables.Tables.{Tables}
 use Rattle.rules.specs.declared.steps.Step.{Step}
 use Rattle.rules.specs.declared.steps.Reading.{Reading}
-use Rattle.rules.specs.declared.answers.Answer.{Answer}
-use Rattle.rules.specs.declared.answers.Decision.{Decision}
-use Rattle.rules.specs.declared.answers.Look.{Look}
-use Rattle.rules.specs.declared.answers.MailAt.{MailAt}
-use Rattle.rules.specs.declared.answers.Outcome.{Outcome}
-use Rattle.rules.specs.declared.answers.Refusal.{Refusal}
-use Rattle.rules.specs.declared.answers.Seen.{Seen}
-use Rattle.rules.specs.declared.answers.SiteAt.{SiteAt}
-use Rattle.rules.specs.declared.answers.SlotAt.{SlotAt}
-use Rattle.rules.specs.declared.answers.Trip.{Trip}
+use Rattle.rules.specs.declared.outcomes.Answer.{Answer}
+use Rattle.rules.specs.declared.outcomes.Decision.{Decision}
+use Rattle.rules.specs.declared.looking.Found.{Found}
+use Rattle.rules.specs.declared.looking.Look.{Look}
+use Rattle.rules.specs.declared.looking.MailAt.{MailAt}
+use Rattle.rules.specs.declared.outcomes.Outcome.{Outcome}
+use Rattle.rules.specs.declared.outcomes.Refusal.{Refusal}
+use Rattle.rules.specs.declared.looking.Seen.{Seen}
+use Rattle.rules.specs.declared.looking.SiteAt.{SiteAt}
+use Rattle.rules.specs.declared.looking.SlotAt.{SlotAt}
+use Rattle.rules.specs.declared.looking.Trip.{Trip}
 use Rattle.rules.specs.Machine.{looks, looksSite, lookOf, decideOf, headOf, tripSite, turnSeen, turnAnswer, turnOf}
 
 -- ---- where a turn looks
@@ -57,17 +58,17 @@ scanCount (Reading.Known step) = stepScan step
 
 -- ---- what a turn decides
 
-abbrev pub readingDone : Reading → ℕ → Bool → Seen → Decision
-readingDone Reading.Nothing place rest seen = record { answer = Answer.Refused Refusal.NoStep; left = seen }
-readingDone (Reading.Known step) place rest seen = decideOf step place rest seen
+abbrev pub readingDone : Reading → Found → Seen → Decision
+readingDone Reading.Nothing found seen = record { answer = Answer.Refused Refusal.NoStep; left = seen }
+readingDone (Reading.Known step) found seen = decideOf step found seen
 
 abbrev pub slotDone : Trip → ℕ → Answer → Seen → Decision
 slotDone trip slot before seen =
     record { answer = turnAnswer trip before seen; left = turnSeen trip slot seen }
 
-abbrev pub turnDone : Reading → Trip → ℕ → ℕ → Bool → Answer → Seen → Decision
-turnDone reading trip turn place rest before seen =
-    cond (eqb turn 0) (readingDone reading place rest seen) (slotDone trip (turn - 1) before seen)
+abbrev pub turnDone : Reading → Trip → ℕ → Found → Answer → Seen → Decision
+turnDone reading trip turn found before seen =
+    cond (eqb turn 0) (readingDone reading found seen) (slotDone trip (turn - 1) before seen)
 
 -- ---- the work on whole tables
 

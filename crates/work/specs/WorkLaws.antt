@@ -11,14 +11,15 @@ use Rattle.rules.specs.declared.tables.Tables.{Tables}
 use Rattle.rules.specs.declared.tables.Message.{Message}
 use Rattle.rules.specs.declared.steps.Step.{Step}
 use Rattle.rules.specs.declared.steps.Reading.{Reading}
-use Rattle.rules.specs.declared.answers.Answer.{Answer}
-use Rattle.rules.specs.declared.answers.Decision.{Decision}
-use Rattle.rules.specs.declared.answers.Look.{Look}
-use Rattle.rules.specs.declared.answers.Outcome.{Outcome}
-use Rattle.rules.specs.declared.answers.Places.{Places}
-use Rattle.rules.specs.declared.answers.Refusal.{Refusal}
-use Rattle.rules.specs.declared.answers.Seen.{Seen}
-use Rattle.rules.specs.declared.answers.Trip.{Trip}
+use Rattle.rules.specs.declared.outcomes.Answer.{Answer}
+use Rattle.rules.specs.declared.outcomes.Decision.{Decision}
+use Rattle.rules.specs.declared.looking.Found.{Found}
+use Rattle.rules.specs.declared.looking.Look.{Look}
+use Rattle.rules.specs.declared.outcomes.Outcome.{Outcome}
+use Rattle.rules.specs.declared.looking.Places.{Places}
+use Rattle.rules.specs.declared.outcomes.Refusal.{Refusal}
+use Rattle.rules.specs.declared.looking.Seen.{Seen}
+use Rattle.rules.specs.declared.looking.Trip.{Trip}
 use Rattle.rules.specs.Loops.{someUpTo}
 use Rattle.rules.specs.LoopsLaws.{either, or-left, or-right, some-none, none-some}
 use Rattle.rules.specs.Tables.{messageAt, passageAt, visitAt, slotOf}
@@ -118,26 +119,26 @@ empty-asked (Step.Retire h) a b e = refl
 
 -- only a retire asks what remains, and it names its slot itself
 rest-asked :
-    (t : Tables) (step : Step) (m : Message) (place : ℕ) (rest : Bool) (seen : Seen)
-    → (stepScan step ≡ 32 → rest ≡ remains t (slotPlace (lookOf step .slot) m))
-    → decideOf step place rest seen ≡ decideOf step place (remains t (placesOf t (lookOf step) .slot)) seen
+    (t : Tables) (step : Step) (m : Message) (found : Found) (seen : Seen)
+    → (stepScan step ≡ 32 → found .remains ≡ remains t (slotPlace (lookOf step .slot) m))
+    → decideOf step found seen ≡ decideOf step (record { place = found .place; remains = remains t (placesOf t (lookOf step) .slot) }) seen
 unfolding decideOf placesOf
-rest-asked t (Step.Tick site n) m place rest seen f = refl
-rest-asked t (Step.Begin home slot q r) m place rest seen f = refl
-rest-asked t (Step.Invoke h site write object value) m place rest seen f = refl
-rest-asked t (Step.Refresh h q r) m place rest seen f = refl
-rest-asked t (Step.Terminate h) m place rest seen f = refl
-rest-asked t (Step.Prepare h) m place rest seen f = refl
-rest-asked t (Step.Ask h site) m place rest seen f = refl
-rest-asked t (Step.Close h) m place rest seen f = refl
-rest-asked t (Step.Tell h site) m place rest seen f = refl
-rest-asked t (Step.Abort h) m place rest seen f = refl
-rest-asked t (Step.Deliver n) m place rest seen f = refl
-rest-asked t (Step.Drop n) m place rest seen f = refl
-rest-asked t (Step.Sweep site) m place rest seen f = refl
-rest-asked t (Step.Crash site) m place rest seen f = refl
-rest-asked t (Step.Recover site) m place rest seen f = refl
-rest-asked t (Step.Retire h) m place rest seen f = rw (f refl)
+rest-asked t (Step.Tick site n) m found seen f = refl
+rest-asked t (Step.Begin home slot q r) m found seen f = refl
+rest-asked t (Step.Invoke h site write object value) m found seen f = refl
+rest-asked t (Step.Refresh h q r) m found seen f = refl
+rest-asked t (Step.Terminate h) m found seen f = refl
+rest-asked t (Step.Prepare h) m found seen f = refl
+rest-asked t (Step.Ask h site) m found seen f = refl
+rest-asked t (Step.Close h) m found seen f = refl
+rest-asked t (Step.Tell h site) m found seen f = refl
+rest-asked t (Step.Abort h) m found seen f = refl
+rest-asked t (Step.Deliver n) m found seen f = refl
+rest-asked t (Step.Drop n) m found seen f = refl
+rest-asked t (Step.Sweep site) m found seen f = refl
+rest-asked t (Step.Crash site) m found seen f = refl
+rest-asked t (Step.Recover site) m found seen f = refl
+rest-asked t (Step.Retire h) m found seen f = rw (f refl)
 
 -- ---- a turn as a runner makes it: look, decide, store
 
@@ -161,8 +162,7 @@ first-turn :
     (turnPlaces (readingLook r) (mailPlace (readingLook r .mail) empty) t)
     (readingDone
     r
-    (mailPlace (readingLook r .mail) empty)
-    rest
+    (record { place = mailPlace (readingLook r .mail) empty; remains = rest })
     (seenOf t (turnPlaces (readingLook r) (mailPlace (readingLook r .mail) empty) t)))
     ≡ readingHead t r
 unfolding headOf placesOf
@@ -172,7 +172,7 @@ first-turn t (Reading.Known step) empty rest e f =
     rw (empty-asked step empty (lowestEmpty t) e)
     (ap
     (made t (placesOf t (lookOf step)))
-    (rest-asked t step (messageAt t 0) (placesOf t (lookOf step) .message) rest (seenOf t (placesOf t (lookOf step))) f))
+    (rest-asked t step (messageAt t 0) (record { place = placesOf t (lookOf step) .message; remains = rest }) (seenOf t (placesOf t (lookOf step))) f))
 
 -- a later turn is that of its slot
 slot-turn :
@@ -260,7 +260,7 @@ pub record Turned (r : Reading) (empty : ℕ) (rest : Bool) (t : Tables) (before
   pub slot : p ≡ slotPlace (look .slot) (messageAt t m)
   pub site : s ≡ sitePlace (look .site) (messageAt t m) (passageAt t p)
   pub bank : b ≡ bankPlace (look .site) (messageAt t m) s
-  pub decided : d ≡ turnDone r (readingLook r .trip) turn m rest before (seenOf t (placesAt s p b m))
+  pub decided : d ≡ turnDone r (readingLook r .trip) turn (record { place = m; remains = rest }) before (seenOf t (placesAt s p b m))
 
 pub working-starts : (t : Tables) (r : Reading) → Working t r t (Answer.Refused Refusal.NoStep) 0 1
 unfolding workUpTo

@@ -3,26 +3,23 @@
 use decisions::decide::decide;
 use decisions::turns::turn_answer;
 use decisions::turns::turn_seen;
-use parts::passages::is_empty;
 use places::look::look_of;
 use places::look::looks_both;
 use places::look::looks_site;
-use rules::answers::Answer;
-use rules::answers::Decision;
-use rules::answers::Look;
-use rules::answers::MailAt;
-use rules::answers::Refusal;
-use rules::answers::Seen;
-use rules::answers::Trip;
+use rules::looking::Found;
+use rules::looking::Look;
+use rules::looking::MailAt;
+use rules::looking::Seen;
+use rules::looking::Trip;
+use rules::outcomes::Answer;
+use rules::outcomes::Decision;
+use rules::outcomes::Refusal;
 use rules::steps::Reading;
 use rules::steps::Step;
-use rules::tables::Message;
-use rules::tables::Visit;
 ghost use Prim.Native.Nat.{_≤_, _<_};
 ghost use mathlib.Core.Path.{_≡_};
-ghost use mathlib.Core.Bool.{_||_};
 ghost use Rattle.rules.specs.Sane.{Sane};
-ghost use Rattle.rules.specs.Machine.{isMessageOf, tripSite};
+ghost use Rattle.rules.specs.Machine.{tripSite};
 ghost use Rattle.decisions.specs.Turns.{tripValue};
 ghost use Rattle.work.specs.Work.{readingLook, slotLook, turnLook, stepScan, scanCount, readingDone, slotDone, turnDone};
 
@@ -118,32 +115,17 @@ pub fn scan_count(reading: Reading) -> usize
     }
 }
 
-pub fn is_message_of(slot: usize, m: Message) -> bool
-    ensures { λ r. ⌜ r ≡ isMessageOf slot m ⌝ }
-{
-    let body = m.body;
-    !is_empty(body) & ((m.handle % 16) as usize == slot)
-}
-
-// One step of the search for what remains of a passage slot: so far, or this message of it, or this visit of it.
-pub fn rest_next(rest: bool, slot: usize, m: Message, v: Visit) -> bool
-    ensures { λ r. ⌜ r ≡ (rest || (isMessageOf slot m || v .there)) ⌝ }
-{
-    let there = v.there;
-    rest | (is_message_of(slot, m) | there)
-}
-
 // What a record decides in its first turn.
-fn decide_reading(reading: Reading, place: usize, rest: bool, seen: Seen) -> Decision
+fn decide_reading(reading: Reading, found: Found, seen: Seen) -> Decision
     requires { ⌜ Sane seen ⌝ }
-    ensures { λ r. ⌜ r ≡ readingDone reading place rest seen ⌝ }
+    ensures { λ r. ⌜ r ≡ readingDone reading found seen ⌝ }
 {
     match reading {
         Reading::Nothing => Decision {
             answer: Answer::Refused(Refusal::NoStep),
             left: seen,
         },
-        Reading::Known(step) => decide(step, place, rest, seen),
+        Reading::Known(step) => decide(step, found, seen),
     }
 }
 
@@ -165,16 +147,15 @@ pub fn decide_turn(
     reading: Reading,
     trip: Trip,
     turn: usize,
-    place: usize,
-    rest: bool,
+    found: Found,
     before: Answer,
     seen: Seen,
 ) -> Decision
     requires { ⌜ (turn ≡ 0 → Sane seen) × (turn ≤ 16) × (tripValue trip before ≤ turn) ⌝ }
-    ensures { λ r. ⌜ r ≡ turnDone reading trip turn place rest before seen ⌝ }
+    ensures { λ r. ⌜ r ≡ turnDone reading trip turn found before seen ⌝ }
 {
     if turn == 0 {
-        decide_reading(reading, place, rest, seen)
+        decide_reading(reading, found, seen)
     } else {
         decide_slot(trip, turn - 1, before, seen)
     }

@@ -3,7 +3,7 @@ use Rattle.opening.proofs.opened.Statement.{statement}
 use Rattle.opening.proofs.opened.Tie as tie
 
 returns : tie.Need-returns
-returns c = rw (c .before .before .opened-passage .ensures, c .before .before .before .opened-visit .ensures, c .before .before .before .before .clock-to .ensures)
+returns c = rw (c .opened-passage .ensures, c .before .opened-visit .ensures, c .before .before .clock-to .ensures)
 
 pub opened-spec : {M : Type 1} → statement M
 opened-spec =

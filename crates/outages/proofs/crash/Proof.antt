@@ -9,7 +9,8 @@ use Rattle.outages.proofs.crash.Tie as tie
 returns : tie.Need-returns
 unfolding crashOf
 returns c =
-    let clock = c .before .before in
+    let moved = c .before .before in
+    let clock = moved .before in
     let up = clock .before .before in
     let fields = up .before .before in
     let args = fields .before .before .before .before .args in
@@ -22,7 +23,7 @@ returns c =
       fields .refuse .ensures,
       fields .before .bad-site .ensures,
     ) in
-    rw (c .settle .ensures, c .before .left-site .ensures, tried) (settled-first _ _ _ _ _)
+    rw (c .settle .ensures, c .before .left-site .ensures, moved .clock-to .ensures, tried) (settled-first _ _ _ _ _)
 
 pub crash-spec : {M : Type 1} → statement M
 crash-spec =
@@ -30,5 +31,5 @@ crash-spec =
     (tie.spec
     (λ c. search needs) (λ c κs. search needs) (λ c κs. search needs) (λ c κs. search needs)
     (λ c κs. search needs) (λ c κs. search needs) (λ c κs. search needs) (λ c κs. search needs)
-    (λ c κs. search needs)
+    (λ c κs. search needs) (λ c κs. search needs)
     returns)

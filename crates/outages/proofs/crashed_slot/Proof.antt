@@ -5,7 +5,7 @@ use Rattle.outages.proofs.crashed_slot.Tie as tie
 
 returns : tie.Need-returns
 unfolding crashedSlot
-returns c = rw (c .before .before .where-there .ensures, c .before .before .before .crashed-visit .ensures, c .before .before .before .before .crashed-passage .ensures, c .before .before .before .before .before .loses-home .ensures)
+returns c = rw (c .where-there .ensures, c .before .crashed-visit .ensures, c .before .before .crashed-passage .ensures, c .before .before .before .loses-home .ensures)
 
 pub crashed-slot-spec : {M : Type 1} → statement M
 crashed-slot-spec =

@@ -3,7 +3,7 @@ use Rattle.passages.proofs.begun.Statement.{statement}
 use Rattle.passages.proofs.begun.Tie as tie
 
 returns : tie.Need-returns
-returns c = rw (c .before .before .new-visit .ensures, c .before .before .before .begun-passage .ensures, c .before .before .before .before .clock-to .ensures)
+returns c = rw (c .new-visit .ensures, c .before .begun-passage .ensures, c .before .before .clock-to .ensures)
 
 pub begun-spec : {M : Type 1} → statement M
 begun-spec =

@@ -5,8 +5,8 @@ use mathlib.Core.Path.{_≡_}
 use mathlib.Core.List.{[], _∷_}
 use lib.ListN.{length-set}
 use borrow.Author.Needs.{needs}
-use Rattle.rules.specs.declared.answers.Answer.{Answer}
-use Rattle.rules.specs.declared.answers.Refusal.{Refusal}
+use Rattle.rules.specs.declared.outcomes.Answer.{Answer}
+use Rattle.rules.specs.declared.outcomes.Refusal.{Refusal}
 use Rattle.rules.specs.Answers.{answerNumber, answerValue}
 use Rattle.running.proofs.Printed.{put-two}
 use Rattle.running.proofs.put_answer.Statement.{statement}

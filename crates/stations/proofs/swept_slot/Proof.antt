@@ -5,7 +5,7 @@ use Rattle.stations.proofs.swept_slot.Tie as tie
 
 returns : tie.Need-returns
 unfolding sweptSlot
-returns c = rw (c .restored-all .ensures, c .before .before .before .no-visit .ensures, c .before .before .before .before .swept-passage .ensures, ← c .before .before .before .before .before .before .before .before .is-swept .ensures, c .before .before .before .before .before .before .before .if1 .taken)
+returns c = rw (c .restored-all .ensures, c .before .before .no-visit .ensures, c .before .before .before .swept-passage .ensures, ← c .before .before .before .before .before .before .is-swept .ensures, c .before .before .before .before .before .if1 .taken)
 
 returns-2 : tie.Need-returns-2
 unfolding sweptSlot

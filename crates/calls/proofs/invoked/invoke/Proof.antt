@@ -1,6 +1,7 @@
 use mathlib.Core.Path.{_≡_}
 use borrow.Author.Needs.{needs}
-use Rattle.rules.specs.Calls.{invokeChecks, invokeOf}
+use Rattle.rules.specs.Calls.{invokeChecks, callOf, invoked, invokeOf}
+use Rattle.rules.specs.Parts.{nextClock}
 use Rattle.checks.specs.Order.{triedAll}
 use Rattle.checks.specs.OrderLaws.{settled-first}
 use Rattle.calls.proofs.invoked.invoke.Statement.{statement}
@@ -46,7 +47,7 @@ returns c =
       c .before .invoked .ensures,
       c .before .before .call-of .ensures,
       tried,
-    ) (settled-first _ _ _ _ _)
+    ) (settled-first _ _ _ (invoked (args .h) (args .site) (callOf (args .write) (args .object) (args .value) (args .seen .visit)) (nextClock (args .seen .site)) (args .seen)) (args .seen))
 
 pub invoke-spec : {M : Type 1} → statement M
 invoke-spec =

@@ -3,7 +3,7 @@ use Rattle.deliveries.proofs.delivered.answered_at.Statement.{statement
 use Rattle.deliveries.proofs.delivered.answered_at.Tie as tie
 
 returns : tie.Need-returns
-returns c = rw (c .before .no-message .ensures, c .before .before .before .with-round .ensures, c .before .before .before .before .with-answer .ensures, c .before .before .before .before .before .clock-to .ensures)
+returns c = rw (c .no-message .ensures, c .before .with-round .ensures, c .before .before .with-answer .ensures, c .before .before .before .clock-to .ensures)
 
 pub answered-at-spec : {M : Type 1} → statement M
 answered-at-spec =

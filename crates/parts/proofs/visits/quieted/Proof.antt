@@ -1,9 +1,0 @@
-use borrow.Author.Needs.{needs}
-use Rattle.parts.proofs.visits.quieted.Statement.{statement}
-use Rattle.parts.proofs.visits.quieted.Tie as tie
-
-returns : tie.Need-returns
-returns c = rw (c .least .ensures)
-
-pub quieted-spec : {M : Type 1} → statement M
-quieted-spec = tie.close (tie.spec (λ c κs. search needs) returns)

@@ -1,2 +1,0 @@
-// The tables at the start.
-pub mod start;
