@@ -1,0 +1,288 @@
+-- What each step leaves: every object that is held has a visit at its site, and every call goes to its object's site. Assumes nothing.
+use Prim.Native.Nat.{ℕ, _%_, _≤_, _<_}
+use native.Mathlib.Omega.{arith}
+use mathlib.Core.Path.{_≡_, refl, sym, ap, _∙_}
+use mathlib.Core.Logic.{_≢_, ⊎-elim, _⊎_, inl, inr}
+use mathlib.Core.Bool.{Bool, true, false, not, _&&_, _||_, true≢false}
+use mathlib.Core.List.{List}
+use lib.Dec.{eqb, ltb}
+use lib.ListN.{getD}
+use borrow.Author.Tests.{ltb-false}
+use Rattle.rules.specs.declared.tables.Holder.{Holder}
+use Rattle.rules.specs.declared.tables.Object.{Object}
+use Rattle.rules.specs.declared.looking.Trip.{Trip}
+use Rattle.rules.specs.declared.outcomes.Check.{Check}
+use Rattle.rules.specs.Limits.{widthMost}
+use Rattle.rules.specs.LoopsLaws.{either, or-left, or-right}
+use Rattle.rules.specs.Tables.{pastObject, siteAt, passageAt, visitAt, messageAt, bankAt, objectSite, slotOf, noMessage}
+use Rattle.rules.specs.Answers.{isAccepted, firstOf, settleOf}
+use Rattle.rules.specs.AnswersLaws.{Fine, accepted-fine}
+use Rattle.rules.specs.Parts.{nextClock, isHeldByOther, freed, restored, eachOf, whereThere, askedVisit, toldVisit, toldObjects, askedOf, plainMessage, leftSite}
+use Rattle.rules.specs.Checks.{badSite, badHandle}
+use Rattle.rules.specs.Rounds.{sentOut, roundTold, closed, openOf, closeOf}
+use Rattle.rules.specs.Calls.{callSite, badCall, mailClock, mailSlot, atHome, replyOf, askedAt, calledVisit, calledObject, called, invokeOf, emptyOf, deliverCallOf, deliverPhaseOneOf, deliverPhaseTwoOf, deliverAnswerOf, deliverBodyOf, lost, dropOf}
+use Rattle.rules.specs.Stations.{isSwept, losesHome, crashedVisit, sweptSlot, crashedSlot}
+use Rattle.rules.specs.Passages.{beginOf, abortOf, retired, retireOf}
+use Rattle.rules.specs.Machine.{seenOf, bodyBank, turnSeen}
+use Rattle.rules.specs.RangesLaws.{set-keeps-at}
+use Rattle.rules.specs.StoredObjects.{each-at}
+use Rattle.runs.specs.Types.{Site, Kind, Visit, Call, Asked, Told, Body, Message, Tables, Places, Seen}
+use Rattle.runs.specs.Kept.Times.{asked-says}
+use Rattle.runs.specs.Holders.Banks.{let-go-holder, taken-holder}
+use Rattle.runs.specs.Holders.HeldStore.{GoesHome, Held, Keeps}
+use Rattle.runs.specs.Times.Clauses.{bodyKind}
+
+abbrev isCall : Body → Bool
+isCall b = eqb (bodyKind b) 1
+
+pub no-call : (m : Message) → isCall (m .body) ≡ false → (c : Call) → m .body ≡ Body.Call c → GoesHome m c
+no-call m f c e = absurd (true≢false (sym (ap isCall e) ∙ f))
+
+-- where a rule changes a visit that is there, it stays there
+changed-there : (v changed : Visit) → changed .there ≡ v .there → whereThere v changed .there ≡ v .there
+changed-there v changed e = ⊎-elim (λ b. rw b (e ∙ b)) (λ b. rw b) (either (v .there))
+
+crashed-there : (homeless : Bool) (clock : ℕ) (v : Visit) → crashedVisit homeless clock v .there ≡ v .there
+crashed-there homeless clock v = ⊎-elim (λ b. rw b) (λ b. rw b) (either (homeless || not (v .prepared)))
+
+-- an answer is no call
+reply-no-call : (v : Visit) (clock : ℕ) (seen : Seen) → isCall (replyOf v clock seen .body) ≡ false
+reply-no-call v clock seen = ⊎-elim (λ e. rw e) (λ e. rw e) (either (atHome seen))
+
+-- the object of a call
+abbrev objectOf : Body → ℕ
+objectOf Body.Empty = 0
+objectOf (Body.Call c) = c .object
+objectOf (Body.PhaseOne n a) = 0
+objectOf (Body.PhaseTwo n d) = 0
+objectOf (Body.Answer n r q) = 0
+
+module _ (t : Tables) (at : Places) (k : Held t) where
+  -- the message that was seen
+  call-stays : (c : Call) → messageAt t (at .message) .body ≡ Body.Call c → GoesHome (messageAt t (at .message)) c
+  call-stays c e = k .calls (at .message) c e
+
+  -- the objects stay, and a visit that was there is there
+  stays :
+      (left : Seen) → left .objects ≡ bankAt t (at .bank)
+      → (left .visit .there ≡ false → visitAt t (at .site) (at .slot) .there ≡ false)
+      → ((c : Call) → left .message .body ≡ Body.Call c → GoesHome (left .message) c)
+      → Keeps t at left
+  stays left o v m =
+      record {
+        objects = λ i p l e. inl (rw o at e);
+        visit = λ e. inl (v e);
+        calls = m;
+      }
+
+  seen-stays : Keeps t at (seenOf t at)
+  seen-stays = stays (seenOf t at) refl (λ e. e) call-stays
+
+  settled-keeps :
+      (cs : List Check) (v : ℕ) (left : Seen) → (Fine cs → Keeps t at left)
+      → Keeps t at (settleOf (record { answer = firstOf cs v; left = left }) (seenOf t at) .left)
+  settled-keeps cs v left f =
+      ⊎-elim
+      (λ e. rw e (f (accepted-fine cs v e)))
+      (λ e. rw e seen-stays)
+      (either (isAccepted (firstOf cs v)))
+
+  -- the visit has let go of what it held at its site
+  lets-go :
+      (f : Object → Object) (left : Seen)
+      → ((o : Object) (q : ℕ) → f o .holder ≡ Holder.Slot q → (o .holder ≡ Holder.Slot q) × (q ≢ at .slot))
+      → left .objects ≡ eachOf f (bankAt t (at .bank))
+      → at .bank ≡ at .site
+      → ((c : Call) → left .message .body ≡ Body.Call c → GoesHome (left .message) c)
+      → Keeps t at left
+  lets-go f left law o b m =
+      record {
+        objects = λ i p l e. inl (was i p l e .0);
+        visit = λ e. inr (b, λ i l y. was i (at .slot) l y .1 refl);
+        calls = m;
+      }
+    where
+      was :
+          (i p : ℕ) → i < 4 → getD (left .objects) i pastObject .holder ≡ Holder.Slot p
+          → (getD (bankAt t (at .bank)) i pastObject .holder ≡ Holder.Slot p) × (p ≢ at .slot)
+      was i p l e =
+          law
+          (getD (bankAt t (at .bank)) i pastObject)
+          p
+          (sym (ap (λ (x : Object). x .holder) (each-at f (bankAt t (at .bank)) i l))
+          ∙ sym (ap (λ (os : List Object). getD os i pastObject .holder) o)
+          ∙ e)
+
+  -- a phase 2 part
+  told-keeps :
+      (told : Told) (left : Seen) → left .visit ≡ toldVisit told (visitAt t (at .site) (at .slot))
+      → left .objects ≡ toldObjects told (at .slot) (bankAt t (at .bank))
+      → at .bank ≡ at .site
+      → ((c : Call) → left .message .body ≡ Body.Call c → GoesHome (left .message) c)
+      → Keeps t at left
+  told-keeps (Told.Refresh q) left v o b m = stays left o (λ e. sym (ap (λ (x : Visit). x .there) v) ∙ e) m
+  told-keeps (Told.Terminate x) left v o b m = stays left o (λ e. sym (ap (λ (x : Visit). x .there) v) ∙ e) m
+  told-keeps Told.Prepare left v o b m = lets-go (freed (at .slot)) left (λ y q. let-go-holder (at .slot) q (y .value) y) o b m
+
+  -- a close does it where the home visit is there
+  closed-keeps : (told : Told) (clock : ℕ) → at .bank ≡ at .site → Keeps t at (closed told (at .slot) clock (seenOf t at))
+  closed-keeps told clock b =
+      ⊎-elim
+      (λ e. told-keeps told _ (rw e) (rw e) b call-stays)
+      (λ e. stays (closed told (at .slot) clock (seenOf t at)) (rw e) (λ y. e) call-stays)
+      (either (visitAt t (at .site) (at .slot) .there))
+
+  -- a delivered call takes its object for the message's slot
+  called-keeps :
+      (c : Call) (clock : ℕ) → at .slot ≡ mailSlot (seenOf t at) → at .bank ≡ at .site
+      → isHeldByOther (mailSlot (seenOf t at)) (calledObject c (seenOf t at) .holder) ≡ false
+      → Keeps t at (called c clock (seenOf t at))
+  called-keeps c clock s b free =
+      record {
+        objects =
+            λ i p l.
+            set-keeps-at
+            (λ (o : Object).
+            o .holder ≡ Holder.Slot p
+            → (getD (bankAt t (at .bank)) i pastObject .holder ≡ Holder.Slot p)
+            ⊎ ((p ≡ at .slot) × ((called c clock (seenOf t at) .visit .there ≡ true) × (at .bank ≡ at .site))))
+            (bankAt t (at .bank))
+            (c .object % 4)
+            i
+            _
+            pastObject
+            (λ e. inl e)
+            (λ e. inr (taken-holder (mailSlot (seenOf t at)) p c (calledObject c (seenOf t at)) free e ∙ sym s, (there, b)));
+        visit = λ e. absurd (true≢false (sym there ∙ e));
+        calls = no-call noMessage refl;
+      }
+    where
+      there : calledVisit c (visitAt t (at .site) (at .slot)) .there ≡ true
+      there = ⊎-elim (λ e. rw e e) (λ e. rw e) (either (visitAt t (at .site) (at .slot) .there))
+
+  -- a station's step: only its site changes
+  pub station-keeps :
+      (cs : List Check) (v : ℕ) (site : Site)
+      → Keeps t at (settleOf (record { answer = firstOf cs v; left = leftSite (seenOf t at) site }) (seenOf t at) .left)
+  station-keeps cs v site =
+      settled-keeps cs v _ (λ f. stays (leftSite (seenOf t at) site) refl (λ e. e) call-stays)
+
+  pub begin-keeps : (home slot q r : ℕ) → Keeps t at (beginOf home slot q r (seenOf t at) .left)
+  unfolding beginOf
+  begin-keeps home slot q r =
+      settled-keeps _ _ _ (λ f. stays _ refl (λ e. absurd (true≢false e)) call-stays)
+
+  pub retire-keeps : (h : ℕ) (rest : Bool) → Keeps t at (retireOf h rest (seenOf t at) .left)
+  unfolding retireOf
+  retire-keeps h rest = settled-keeps _ _ _ (λ f. stays (retired (seenOf t at)) refl (λ e. e) call-stays)
+
+  pub drop-keeps : (m : ℕ) → Keeps t at (dropOf m (seenOf t at) .left)
+  unfolding dropOf
+  drop-keeps m = settled-keeps _ _ _ (λ f. stays (lost (seenOf t at)) refl (λ e. e) (no-call noMessage refl))
+
+  -- ask and tell send no call
+  pub sent-keeps :
+      (cs : List Check) (v : ℕ) (body : Body) (h site clock : ℕ) → isCall body ≡ false
+      → Keeps t at (settleOf (record { answer = firstOf cs v; left = sentOut body h site clock (seenOf t at) }) (seenOf t at) .left)
+  sent-keeps cs v body h site clock e =
+      settled-keeps cs v _ λ f.
+      stays
+      (sentOut body h site clock (seenOf t at))
+      refl
+      (λ y. y)
+      (no-call (plainMessage body (passageAt t (at .slot) .home) site h clock) e)
+
+  -- the object of an accepted invoke is one of the 32
+  pub invoke-keeps : (h site write object value place : ℕ) → Keeps t at (invokeOf h site write object value place (seenOf t at) .left)
+  unfolding invokeOf
+  invoke-keeps h site write object value place =
+      settled-keeps _ _ _ λ f.
+      let o : object ≤ 31 = ltb-false 31 object (object-says (f .fields)) in
+      stays _ refl (λ e. e) (λ c e. sent c (ap objectOf e) o)
+    where
+      object-says : badCall h site write object value ≡ false → ltb 31 object ≡ false
+      object-says e =
+          or-right
+          (badHandle h || badSite site || ltb 1 write)
+          (ltb 31 object)
+          (or-left
+          (badHandle h || badSite site || ltb 1 write || ltb 31 object)
+          (ltb widthMost value)
+          (or-left
+          (badHandle h || badSite site || ltb 1 write || ltb 31 object || ltb widthMost value)
+          (eqb write 0 && not (eqb value 0))
+          e))
+
+      sent : (c : Call) → object ≡ c .object → object ≤ 31 → (callSite object ≡ objectSite (c .object)) × (c .object < 32)
+      sent c e o =
+          let y : object ≡ c .object = e in
+          (omega arith, omega arith)
+
+  pub open-keeps : (h : ℕ) (kind : Kind) (bad wrong : Bool) → Keeps t at (openOf h kind bad wrong (seenOf t at) .left)
+  unfolding openOf
+  open-keeps h kind bad wrong =
+      settled-keeps _ _ _ (λ f. stays _ refl (λ e. sym (asked-says (askedOf kind) _ _ _ .there) ∙ e) call-stays)
+
+  pub abort-keeps : (h : ℕ) → Keeps t at (abortOf h (seenOf t at) .left)
+  unfolding abortOf
+  abort-keeps h =
+      settled-keeps _ _ _ (λ f. stays _ refl (λ e. sym (changed-there _ _ refl) ∙ e) call-stays)
+
+  pub close-keeps : (h : ℕ) → slotOf h ≡ at .slot → at .bank ≡ at .site → Keeps t at (closeOf h (seenOf t at) .left)
+  unfolding closeOf
+  close-keeps h s b = settled-keeps _ _ _ (λ f. rw s (closed-keeps (roundTold (passageAt t (at .slot) .round)) (nextClock (siteAt t (at .site))) b))
+
+  -- a phase 1 part, away from home with its answer
+  asked-keeps : (n : ℕ) (asked : Asked) (clock : ℕ) → Keeps t at (askedAt n asked clock (seenOf t at))
+  asked-keeps n asked clock =
+      let v : Visit = visitAt t (at .site) (at .slot) in
+      stays
+      (askedAt n asked clock (seenOf t at))
+      refl
+      (λ e. sym (asked-says asked n clock v .there) ∙ e)
+      (no-call (replyOf (askedVisit asked n clock v) clock (seenOf t at)) (reply-no-call (askedVisit asked n clock v) clock (seenOf t at)))
+
+  -- by what the message slot holds
+  pub deliver-keeps :
+      (body : Body) (m : ℕ) → messageAt t (at .message) .body ≡ body
+      → at .slot ≡ mailSlot (seenOf t at)
+      → at .site ≡ messageAt t (at .message) .destination % 8
+      → at .bank ≡ bodyBank body (at .site)
+      → Keeps t at (deliverBodyOf body m (seenOf t at) .left)
+  unfolding deliverBodyOf emptyOf deliverCallOf deliverPhaseOneOf deliverPhaseTwoOf deliverAnswerOf
+  deliver-keeps Body.Empty m e s a b = settled-keeps _ _ _ (λ f. seen-stays)
+  deliver-keeps (Body.Call c) m e s a b =
+      let y : messageAt t (at .message) .destination ≡ objectSite (c .object) = k .calls (at .message) c e .0 in
+      settled-keeps _ _ _ (λ f. called-keeps c _ s (b ∙ ap (λ (x : ℕ). x % 8) (sym y) ∙ sym a) (f .unheld))
+  deliver-keeps (Body.PhaseOne n asked) m e s a b =
+      settled-keeps _ _ _ (λ f. asked-keeps n asked (mailClock (seenOf t at)))
+  deliver-keeps (Body.PhaseTwo n told) m e s a b =
+      settled-keeps _ _ _ (λ f. told-keeps told _ refl (rw s) b (no-call noMessage refl))
+  deliver-keeps (Body.Answer n r q) m e s a b =
+      settled-keeps _ _ _ (λ f. stays _ refl (λ y. y) (no-call noMessage refl))
+
+  -- one slot of a sweep: the visit that goes has let go
+  swept-keeps : (site : ℕ) → at .bank ≡ at .site → Keeps t at (sweptSlot site (at .slot) (seenOf t at))
+  unfolding sweptSlot
+  swept-keeps site b =
+      ⊎-elim
+      (λ e. rw e (lets-go (restored (at .slot)) _ (λ o q. let-go-holder (at .slot) q (o .before) o) refl b call-stays))
+      (λ e. rw e seen-stays)
+      (either (isSwept (seenOf t at)))
+
+  -- one slot of a crash: the visit stays
+  crashed-keeps : (site slot : ℕ) → Keeps t at (crashedSlot site slot (seenOf t at))
+  unfolding crashedSlot
+  crashed-keeps site slot =
+      let v : Visit = visitAt t (at .site) (at .slot) in
+      let w : Visit = crashedVisit (losesHome site (passageAt t (at .slot))) (siteAt t (at .site) .clock) v in
+      stays
+      (crashedSlot site slot (seenOf t at))
+      refl
+      (λ e. sym (changed-there v w (crashed-there (losesHome site (passageAt t (at .slot))) (siteAt t (at .site) .clock) v)) ∙ e)
+      call-stays
+
+  pub turned-keeps : (trip : Trip) → at .bank ≡ at .site → Keeps t at (turnSeen trip (at .slot) (seenOf t at))
+  turned-keeps Trip.Nowhere b = seen-stays
+  turned-keeps (Trip.Sweep site) b = swept-keeps site b
+  turned-keeps (Trip.Crash site) b = crashed-keeps site (at .slot)

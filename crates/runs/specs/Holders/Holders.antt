@@ -1,0 +1,100 @@
+-- In every run the passage that holds an object has a visit at the object's site, and every call in a message slot goes to its object's site.
+-- Assumes nothing.
+use Prim.Native.Nat.{ℕ, _<_}
+use mathlib.Core.Path.{_≡_, refl}
+use mathlib.Core.Bool.{Bool, true}
+use mathlib.Core.List.{List}
+use Rattle.rules.specs.declared.tables.Holder.{Holder}
+use Rattle.rules.specs.declared.tables.Object.{Object}
+use Rattle.rules.specs.declared.looking.Trip.{Trip}
+use Rattle.rules.specs.Tables.{pastObject, objectAt, visitAt, messageAt, objectSite, noObject, noMessage, pastMessage, start}
+use Rattle.rules.specs.Rounds.{refreshOf, terminateOf, prepareOf, askOf, tellOf}
+use Rattle.rules.specs.Stations.{tickOf, sweepOf, crashOf, recoverOf}
+use Rattle.rules.specs.Machine.{lookOf, placesOf, seenOf, decideOf, headOf, tripPlaces, turnOf, stepOf}
+use Rattle.rules.specs.StoredLaws.{turn-stored}
+use Rattle.rules.specs.RangesLaws.{placed-places, placed-trip}
+use Rattle.rules.specs.Runs.{runOf}
+use Rattle.runs.specs.Types.{Call, Body, Message, Tables, Step, Outcome, Found}
+use Rattle.runs.specs.Walk.Plain.{repeat-has}
+use Rattle.runs.specs.Walk.Sizes.{step-holds, run-holds, sized-start}
+use Rattle.runs.specs.Holders.Banks.{nobody-holds}
+use Rattle.runs.specs.Holders.HeldStore.{GoesHome, Held, Keeps, held-stored}
+use Rattle.runs.specs.Holders.HeldSteps.{no-call, station-keeps, begin-keeps, retire-keeps, drop-keeps, sent-keeps, invoke-keeps, open-keeps, abort-keeps, close-keeps, deliver-keeps, turned-keeps}
+
+-- ---- every step and every turn
+
+decided-keeps :
+    (t : Tables) (step : Step) (found : Found) → Held t
+    → Keeps t (placesOf t (lookOf step)) (decideOf step found (seenOf t (placesOf t (lookOf step))) .left)
+unfolding placesOf decideOf tickOf refreshOf terminateOf prepareOf askOf tellOf sweepOf crashOf recoverOf
+decided-keeps t (Step.Tick site n) found k = station-keeps t _ k _ _ _
+decided-keeps t (Step.Begin home slot q r) found k = begin-keeps t _ k home slot q r
+decided-keeps t (Step.Invoke h site write object value) found k = invoke-keeps t _ k h site write object value (found .place)
+decided-keeps t (Step.Refresh h q r) found k = open-keeps t _ k h _ _ _
+decided-keeps t (Step.Terminate h) found k = open-keeps t _ k h _ _ _
+decided-keeps t (Step.Prepare h) found k = open-keeps t _ k h _ _ _
+decided-keeps t (Step.Ask h site) found k = sent-keeps t _ k _ _ _ h site _ refl
+decided-keeps t (Step.Close h) found k = close-keeps t _ k h refl refl
+decided-keeps t (Step.Tell h site) found k = sent-keeps t _ k _ _ _ h site _ refl
+decided-keeps t (Step.Abort h) found k = abort-keeps t _ k h
+decided-keeps t (Step.Deliver m) found k = deliver-keeps t _ k _ m refl refl refl refl
+decided-keeps t (Step.Drop m) found k = drop-keeps t _ k m
+decided-keeps t (Step.Sweep site) found k = station-keeps t _ k _ _ _
+decided-keeps t (Step.Crash site) found k = station-keeps t _ k _ _ _
+decided-keeps t (Step.Recover site) found k = station-keeps t _ k _ _ _
+decided-keeps t (Step.Retire h) found k = retire-keeps t _ k h (found .remains)
+
+held-head : (t : Tables) (step : Step) → Held t → Held (headOf t step .tables)
+unfolding headOf
+held-head t step k = held-stored t _ _ k (placed-places t (lookOf step)) (decided-keeps t step _ k)
+
+held-turn : (trip : Trip) (slot : ℕ) (o : Outcome) → slot < 16 → Held (o .tables) → Held (turnOf trip slot o .tables)
+held-turn trip slot o l k =
+    rw
+    (turn-stored trip slot o)
+    (held-stored (o .tables) (tripPlaces trip slot) _ k (placed-trip trip slot l) (turned-keeps (o .tables) (tripPlaces trip slot) k trip refl))
+
+-- ---- the start, and every run
+
+-- nothing is held, and there is no message
+pub held-start : Held start
+unfolding start
+held-start =
+    record {
+      sized = sized-start;
+      visits =
+          λ j p l e.
+          absurd
+          (repeat-has (λ (o : Object). o .holder ≡ Holder.Slot p → ⊥) 32 noObject pastObject (nobody-holds p) (nobody-holds p) j e);
+      calls =
+          λ m c.
+          repeat-has
+          (λ (x : Message). x .body ≡ Body.Call c → GoesHome x c)
+          32
+          noMessage
+          pastMessage
+          (no-call noMessage refl c)
+          (no-call pastMessage refl c)
+          m;
+    }
+
+pub held-step : (t : Tables) (step : Step) → Held t → Held (stepOf t step .tables)
+held-step t step k = step-holds Held (λ u s h e. held-head u s h) held-turn t step k
+
+pub held-from : (t : Tables) (ss : List Step) → Held t → Held (runOf t ss)
+held-from = run-holds Held (λ u s h e. held-head u s h) held-turn
+
+pub held-run : (ss : List Step) → Held (runOf start ss)
+held-run ss = held-from start ss held-start
+
+-- who holds an object has a visit at its site
+pub held-has-visit :
+    (ss : List Step) (k p : ℕ) → k < 32 → objectAt (runOf start ss) k .holder ≡ Holder.Slot p
+    → (p < 16) × (visitAt (runOf start ss) (objectSite k) p .there ≡ true)
+held-has-visit ss = held-run ss .visits
+
+-- a call goes to its object's site
+pub call-goes-home :
+    (ss : List Step) (m : ℕ) (c : Call) → messageAt (runOf start ss) m .body ≡ Body.Call c
+    → (messageAt (runOf start ss) m .destination ≡ objectSite (c .object)) × (c .object < 32)
+call-goes-home ss = held-run ss .calls

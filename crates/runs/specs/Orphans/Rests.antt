@@ -1,0 +1,157 @@
+-- The width of an object at rest, kept along a run: the value that it had when nobody held it last. And what a change of one object does to it.
+-- The idea: the tables know it too, as the value while nobody holds the object and as the value before while someone does. Assumes nothing.
+use Rattle.rules.specs.Record.{isStep}
+use Prim.Native.Nat.{ℕ, zero, suc}
+use mathlib.Core.Path.{_≡_, refl, ap, _∙_}
+use mathlib.Core.Logic.{_⊎_, inl, inr}
+use mathlib.Core.Bool.{Bool, true, false, cond, false≢true, _&&_}
+use mathlib.Core.List.{List, [], _∷_}
+use lib.Dec.{eqb}
+use lib.ListN.{getD, set}
+use Rattle.rules.specs.declared.tables.Holder.{Holder}
+use Rattle.rules.specs.declared.tables.Object.{Object}
+use Rattle.rules.specs.Tables.{objectAt, start}
+use Rattle.rules.specs.Parts.{isUnheld, taken, operated, unheld, freed, restored}
+use Rattle.rules.specs.Machine.{stepOf}
+use Rattle.runs.specs.Orphans.Orphans.{tellsPrepare}
+use Rattle.runs.specs.Types.{Kind, Call, Body, Tables, Step, Seen}
+
+-- ---- the width at rest, along a run
+
+-- in these tables nobody holds object k
+abbrev pub isAtRest : Tables → ℕ → Bool
+isAtRest t k = isUnheld (objectAt t k .holder)
+
+-- the width at rest once a step has left these tables: the object's value where nobody holds it, else what it was
+abbrev pub restAfter : Tables → ℕ → ℕ → ℕ
+restAfter t k rest = cond (isAtRest t k) (objectAt t k .value) rest
+
+unfoldable pub restFrom : Tables → List Step → ℕ → ℕ → ℕ
+restFrom t [] k rest = rest
+restFrom t (s ∷ ss) k rest = restFrom (stepOf t s .tables) ss k (restAfter (stepOf t s .tables) k rest)
+
+-- from the start, where nobody holds any
+unfoldable pub restOf : List Step → ℕ → ℕ
+restOf ss k = restFrom start ss k (objectAt start k .value)
+
+-- object k is held after each of these steps
+abbrev pub HeldThrough : Tables → List Step → ℕ → Type 0
+HeldThrough t [] k = Unit {0}
+HeldThrough t (s ∷ ss) k = (isAtRest (stepOf t s .tables) k ≡ false) × HeldThrough (stepOf t s .tables) ss k
+
+-- ---- the steps that commit: phase 2 of a prepare, at home by close, elsewhere by a delivered message
+
+abbrev pub isPrepare : Kind → Bool
+isPrepare Kind.None = false
+isPrepare (Kind.Refresh q r) = false
+isPrepare Kind.Terminate = false
+isPrepare Kind.Prepare = true
+
+abbrev pub carriesCommit : Body → Bool
+carriesCommit Body.Empty = false
+carriesCommit (Body.Call c) = false
+carriesCommit (Body.PhaseOne n asked) = false
+carriesCommit (Body.PhaseTwo n told) = tellsPrepare told
+carriesCommit (Body.Answer n received q) = false
+
+-- by the step and what it sees: a close (code 8) of a commit round, or a delivery (code 11) of its word
+abbrev pub commits : Step → Seen → Bool
+commits step seen =
+    cond (isStep 8 step) (isPrepare (seen .passage .round .kind)) (isStep 11 step && carriesCommit (seen .message .body))
+
+-- ---- the width that stands, read off one object
+
+abbrev pub standing : Object → ℕ
+standing o = cond (isUnheld (o .holder)) (o .value) (o .before)
+
+pub standing-unheld : (o : Object) → isUnheld (o .holder) ≡ true → standing o ≡ o .value
+standing-unheld o e = rw e
+
+-- what one store does to an object: the width that stands stays, or a commit frees the object with the value that it has
+abbrev pub Stands : Bool → Object → Object → Type 0
+Stands commit o left = (standing left ≡ standing o) ⊎ ((commit ≡ true) × (left ≡ unheld (o .value)))
+
+-- what a turn of a sweep or a crash does: the width that stands stays, and an object that nobody holds stays as it is
+abbrev pub Turned : Object → Object → Type 0
+Turned o left = (standing left ≡ standing o) × (isUnheld (o .holder) ≡ true → left ≡ o)
+
+-- a turn after the store
+pub stands-after-turned : (commit : Bool) (o left last : Object) → Stands commit o left → Turned left last → Stands commit o last
+stands-after-turned commit o left last (inl e) w = inl (w .0 ∙ e)
+stands-after-turned commit o left last (inr (c, e)) w = inr (c, w .1 (ap (λ (x : Object). isUnheld (x .holder)) e) ∙ e)
+
+-- ---- what each change of an object does
+
+-- "The object is taken if unheld, then read or written": the value before is saved once
+pub standing-after-call : (p : ℕ) (c : Call) (o : Object) → standing (operated c (taken p o)) ≡ standing o
+standing-after-call p c o = by-holder (o .value) (o .holder) (o .before) (c .write)
+  where
+    by-holder :
+        (value : ℕ) (x : Holder) (before : ℕ) (write : Bool)
+        → standing
+        (cond
+        write
+        (record {
+          value = c .value;
+          holder = taken p (record { value = value; holder = x; before = before }) .holder;
+          before = taken p (record { value = value; holder = x; before = before }) .before;
+        })
+        (taken p (record { value = value; holder = x; before = before })))
+        ≡ standing (record { value = value; holder = x; before = before })
+    by-holder value Holder.Nobody before true = refl
+    by-holder value Holder.Nobody before false = refl
+    by-holder value (Holder.Slot q) before true = refl
+    by-holder value (Holder.Slot q) before false = refl
+
+-- "its objects are freed and keep their values": a commit lets the new width stand
+pub stands-after-freed : (p : ℕ) (o : Object) → Stands true o (freed p o)
+stands-after-freed p o = by-holder (o .value) (o .holder) (o .before)
+  where
+    by-holder :
+        (value : ℕ) (x : Holder) (before : ℕ)
+        → Stands true (record { value = value; holder = x; before = before }) (freed p (record { value = value; holder = x; before = before }))
+    by-holder value Holder.Nobody before = inl refl
+    by-holder value (Holder.Slot q) before = by-slot (eqb q p)
+      where
+        by-slot :
+            (b : Bool)
+            → Stands
+            true
+            (record { value = value; holder = Holder.Slot q; before = before })
+            (cond b (unheld value) (record { value = value; holder = Holder.Slot q; before = before }))
+        by-slot true = inr (refl, refl)
+        by-slot false = inl refl
+
+-- "restores and frees its objects": what was written is undone
+pub standing-after-restored : (p : ℕ) (o : Object) → standing (restored p o) ≡ standing o
+standing-after-restored p o = by-holder (o .value) (o .holder) (o .before)
+  where
+    by-holder :
+        (value : ℕ) (x : Holder) (before : ℕ)
+        → standing (restored p (record { value = value; holder = x; before = before }))
+        ≡ standing (record { value = value; holder = x; before = before })
+    by-holder value Holder.Nobody before = refl
+    by-holder value (Holder.Slot q) before = by-slot (eqb q p)
+      where
+        by-slot :
+            (b : Bool)
+            → standing (cond b (unheld before) (record { value = value; holder = Holder.Slot q; before = before })) ≡ before
+        by-slot true = refl
+        by-slot false = refl
+
+-- an object that nobody holds has nothing to restore
+pub unheld-after-restored : (p : ℕ) (o : Object) → isUnheld (o .holder) ≡ true → restored p o ≡ o
+unheld-after-restored p o = by-holder (o .holder) refl
+  where
+    by-holder : (x : Holder) → o .holder ≡ x → isUnheld x ≡ true → restored p o ≡ o
+    by-holder Holder.Nobody e u = rw e
+    by-holder (Holder.Slot q) e u = absurd (false≢true u)
+
+-- ---- one element of a list is replaced: what holds of it at its place, and of each other at its own, holds after it
+
+pub set-at : {A : Type 0} (P : ℕ → A → Type 0) (l : List A) (i j : ℕ) (a d : A) → P j (getD l j d) → P i a → P j (getD (set l i a) j d)
+set-at P [] i j a d h k = h
+set-at P (x ∷ xs) zero zero a d h k = k
+set-at P (x ∷ xs) zero (suc j) a d h k = h
+set-at P (x ∷ xs) (suc i) zero a d h k = h
+set-at P (x ∷ xs) (suc i) (suc j) a d h k = set-at (λ n. P (suc n)) xs i j a d h k

@@ -1,0 +1,162 @@
+-- An orphan's figures are undone: an object that a sweep frees has the width that it had when nobody held it last, and only a commit changes that width.
+-- The idea: in every run the width at rest, kept along the run, is the one that the tables know, and no step but a commit touches that. Assumes nothing.
+use Prim.Native.Nat.{ℕ}
+use mathlib.Core.Path.{_≡_, refl, sym, ap, _∙_}
+use mathlib.Core.Logic.{_≢_, inl, inr, ⊎-elim}
+use mathlib.Core.Bool.{true, false, false≢true}
+use mathlib.Core.List.{List, [], _∷_, _++_}
+use Rattle.rules.specs.declared.tables.Object.{Object}
+use Rattle.rules.specs.LoopsLaws.{either}
+use Rattle.rules.specs.Tables.{objectAt, pastObject, noObject, start}
+use Rattle.rules.specs.Answers.{isAccepted}
+use Rattle.rules.specs.Parts.{isUnheld}
+use Rattle.rules.specs.StoredLaws.{Sized}
+use Rattle.rules.specs.Machine.{stepOf}
+use Rattle.rules.specs.RefusedLaws.{refused-leaves}
+use Rattle.rules.specs.Runs.{runOf}
+use Rattle.runs.specs.Types.{Tables, Step}
+use Rattle.runs.specs.Walk.Steps.{run-on}
+use Rattle.runs.specs.Walk.Sizes.{sized-start, sized-step, sized-run}
+use Rattle.runs.specs.Walk.Plain.{repeat-has}
+use Rattle.runs.specs.Times.Ledgers.{seenAt}
+use Rattle.runs.specs.Orphans.Rests.{isAtRest, restAfter, restFrom, restOf, HeldThrough, commits, standing, standing-unheld, Stands}
+use Rattle.runs.specs.Orphans.RestSteps.{step-stands}
+
+-- ---- in every run the width at rest is the one that stands in the tables
+
+-- one step: an object that is held after it has the saved value that it had, or had just been taken with its value
+rest-step :
+    (t : Tables) (s : Step) (k rest : ℕ) → Sized t → rest ≡ standing (objectAt t k)
+    → restAfter (stepOf t s .tables) k rest ≡ standing (objectAt (stepOf t s .tables) k)
+rest-step t s k rest z e =
+    ⊎-elim
+    (λ q. rw q)
+    (λ q. rw q (held q (step-stands t s z k)))
+    (either (isAtRest (stepOf t s .tables) k))
+  where
+    held :
+        isAtRest (stepOf t s .tables) k ≡ false
+        → Stands (commits s (seenAt t s)) (objectAt t k) (objectAt (stepOf t s .tables) k)
+        → rest ≡ objectAt (stepOf t s .tables) k .before
+    held q (inl stands) = e ∙ sym stands ∙ (rw q)
+    held q (inr (c, free)) = absurd (false≢true (sym q ∙ ap (λ (o : Object). isUnheld (o .holder)) free))
+
+rest-from :
+    (t : Tables) (ss : List Step) (k rest : ℕ) → Sized t → rest ≡ standing (objectAt t k)
+    → restFrom t ss k rest ≡ standing (objectAt (runOf t ss) k)
+unfolding restFrom runOf
+rest-from t [] k rest z e = e
+rest-from t (s ∷ ss) k rest z e =
+    rest-from (stepOf t s .tables) ss k (restAfter (stepOf t s .tables) k rest) (sized-step t s z) (rest-step t s k rest z e)
+
+-- at the start nobody holds any
+start-at-rest : (k : ℕ) → isAtRest start k ≡ true
+unfolding start
+start-at-rest = repeat-has (λ (o : Object). isUnheld (o .holder) ≡ true) 32 noObject pastObject refl refl
+
+pub rest-stands : (ss : List Step) (k : ℕ) → restOf ss k ≡ standing (objectAt (runOf start ss) k)
+unfolding restOf
+rest-stands ss k =
+    rest-from start ss k (objectAt start k .value) sized-start (sym (standing-unheld (objectAt start k) (start-at-rest k)))
+
+-- so an object that is held has it as its value before
+pub before-is-rest :
+    (ss : List Step) (k : ℕ) → isAtRest (runOf start ss) k ≡ false → objectAt (runOf start ss) k .before ≡ restOf ss k
+before-is-rest ss k e = rw (rest-stands ss k, e)
+
+-- and one that nobody holds has it as its value
+pub value-is-rest :
+    (ss : List Step) (k : ℕ) → isAtRest (runOf start ss) k ≡ true → objectAt (runOf start ss) k .value ≡ restOf ss k
+value-is-rest ss k e = rw (rest-stands ss k, e)
+
+-- ---- one more step
+
+-- the step leaves this width at rest
+rest-after-step : (ss : List Step) (s : Step) (k : ℕ) → restOf (ss ++ (s ∷ [])) k ≡ standing (objectAt (stepOf (runOf start ss) s .tables) k)
+unfolding runOf
+rest-after-step ss s k = rest-stands (ss ++ (s ∷ [])) k ∙ ap (λ (t : Tables). standing (objectAt t k)) (run-on start ss (s ∷ []))
+
+-- what is known of a step that changes the width at rest of object k: it is accepted, it commits, and the new width is the value that stood written
+pub record Committed (ss : List Step) (s : Step) (k : ℕ) : Type 0 where
+  pub accepted : isAccepted (stepOf (runOf start ss) s .answer) ≡ true
+  pub commit : commits s (seenAt (runOf start ss) s) ≡ true
+  pub width : restOf (ss ++ (s ∷ [])) k ≡ objectAt (runOf start ss) k .value
+
+-- only a commit changes a width: no abort, no crash, no sweep and no retire does
+pub only-commits-change :
+    (ss : List Step) (s : Step) (k : ℕ) → restOf (ss ++ (s ∷ [])) k ≢ restOf ss k → Committed ss s k
+only-commits-change ss s k changed =
+    record {
+      accepted =
+          ⊎-elim
+          (λ e. e)
+          (λ e. absurd (changed (same (ap (λ (t : Tables). standing (objectAt t k)) (refused-leaves (runOf start ss) s e)))))
+          (either (isAccepted (stepOf (runOf start ss) s .answer)));
+      commit = ⊎-elim (λ e. absurd (changed (same e))) (λ e. e .0) stands;
+      width =
+          ⊎-elim
+          (λ e. absurd (changed (same e)))
+          (λ e. rest-after-step ss s k ∙ ap standing (e .1))
+          stands;
+    }
+  where
+    stands : Stands (commits s (seenAt (runOf start ss) s)) (objectAt (runOf start ss) k) (objectAt (stepOf (runOf start ss) s .tables) k)
+    stands = step-stands (runOf start ss) s (sized-run ss) k
+
+    same :
+        standing (objectAt (stepOf (runOf start ss) s .tables) k) ≡ standing (objectAt (runOf start ss) k)
+        → restOf (ss ++ (s ∷ [])) k ≡ restOf ss k
+    same e = rest-after-step ss s k ∙ e ∙ sym (rest-stands ss k)
+
+-- ---- the sweep
+
+-- an object that nobody holds after a sweep has the width that it had at rest before the sweep, whoever held it then
+pub rest-after-sweep :
+    (ss : List Step) (site k : ℕ) → isAtRest (stepOf (runOf start ss) (Step.Sweep site) .tables) k ≡ true
+    → objectAt (stepOf (runOf start ss) (Step.Sweep site) .tables) k .value ≡ restOf ss k
+rest-after-sweep ss site k free =
+    sym (standing-unheld (objectAt (stepOf (runOf start ss) (Step.Sweep site) .tables) k) free)
+    ∙ ⊎-elim
+    (λ e. e)
+    (λ e. absurd (false≢true (e .0)))
+    (step-stands (runOf start ss) (Step.Sweep site) (sized-run ss) k)
+    ∙ sym (rest-stands ss k)
+
+-- while an object is held its width at rest stays
+rest-while-held : (t : Tables) (ss : List Step) (k rest : ℕ) → HeldThrough t ss k → restFrom t ss k rest ≡ rest
+unfolding restFrom
+rest-while-held t [] k rest h = refl
+rest-while-held t (s ∷ ss) k rest h =
+    rest-while-held (stepOf t s .tables) ss k (restAfter (stepOf t s .tables) k rest) (h .1) ∙ (rw (h .0))
+
+rest-from-after :
+    (t : Tables) (ss later : List Step) (k rest : ℕ) → restFrom t (ss ++ later) k rest ≡ restFrom (runOf t ss) later k (restFrom t ss k rest)
+unfolding restFrom runOf
+rest-from-after t [] later k rest = refl
+rest-from-after t (s ∷ ss) later k rest =
+    rest-from-after (stepOf t s .tables) ss later k (restAfter (stepOf t s .tables) k rest)
+
+-- the width at rest is what it is called: the value at the last moment at which nobody held the object
+pub rest-is-last-free :
+    (ss later : List Step) (k : ℕ) → isAtRest (runOf start ss) k ≡ true → HeldThrough (runOf start ss) later k
+    → restOf (ss ++ later) k ≡ objectAt (runOf start ss) k .value
+unfolding restOf
+rest-is-last-free ss later k free held =
+    rest-from-after start ss later k (objectAt start k .value)
+    ∙ rest-while-held (runOf start ss) later k (restFrom start ss k (objectAt start k .value)) held
+    ∙ sym (value-is-rest ss k free)
+
+-- "restores and frees its objects": nobody holds object k after the steps ss, it is held after each later one, and then a sweep frees it;
+-- it has the width again that it had after ss, whatever was written since
+pub figures-undone :
+    (ss later : List Step) (site k : ℕ) → isAtRest (runOf start ss) k ≡ true → HeldThrough (runOf start ss) later k
+    → isAtRest (stepOf (runOf (runOf start ss) later) (Step.Sweep site) .tables) k ≡ true
+    → objectAt (stepOf (runOf (runOf start ss) later) (Step.Sweep site) .tables) k .value ≡ objectAt (runOf start ss) k .value
+figures-undone ss later site k free held swept =
+    ap (λ (t : Tables). objectAt (stepOf t (Step.Sweep site) .tables) k .value) (sym (run-on start ss later))
+    ∙ rest-after-sweep
+    (ss ++ later)
+    site
+    k
+    (ap (λ (t : Tables). isAtRest (stepOf t (Step.Sweep site) .tables) k) (run-on start ss later) ∙ swept)
+    ∙ rest-is-last-free ss later k free held

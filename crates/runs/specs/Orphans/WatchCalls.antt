@@ -1,0 +1,202 @@
+-- Steps of a message keep the invariant behind demand 3: invoke, deliver, drop. Assumes nothing.
+use Prim.Native.Nat.{ℕ, zero-le}
+use native.Mathlib.Omega.{arith}
+use mathlib.Core.Path.{_≡_, refl, sym, ap, _∙_, subst}
+use mathlib.Core.Logic.{inl, inr}
+use mathlib.Core.Bool.{true, false, true≢false}
+use borrow.Author.Tests.{leb-false}
+use Rattle.rules.specs.LoopsLaws.{or-left, not-false, cond-keeps}
+use Rattle.rules.specs.Tables.{siteAt, passageAt, visitAt, messageAt, noMessage, slotOf}
+use Rattle.rules.specs.Answers.{isAccepted, settleOf}
+use Rattle.rules.specs.AnswersLaws.{Fine, accepted-fine}
+use Rattle.rules.specs.FineLaws.{invoke-empty}
+use Rattle.rules.specs.Parts.{isEmpty, nextClock, askedVisit, answerMessage, plainMessage}
+use Rattle.rules.specs.Calls.{callSite, callOf, invokeDone, invokeChecks, mailClock, atHome, replyOf, calledVisit, callChecks, callDone, phaseOneDone, phaseTwoDone, answerDone, emptyOf, deliverCallOf, deliverPhaseOneOf, deliverPhaseTwoOf, deliverAnswerOf, deliverBodyOf, lost}
+use Rattle.rules.specs.Machine.{seenOf}
+use Rattle.runs.specs.Types.{Visit, Call, Asked, Told, Body, Message, Tables, Places, Seen, Decision}
+use Rattle.runs.specs.Times.View.{View, viewOf}
+use Rattle.runs.specs.Times.Store.{own-body, reply-own}
+use Rattle.runs.specs.Orphans.WatchKept.{BodyKeeps}
+use Rattle.runs.specs.Orphans.WatchMailKept.{mail-keeps, empty-keeps, seen-keeps}
+use Rattle.runs.specs.Orphans.WatchPassageKept.{passage-stays, answered-keeps, asked-home, told-home}
+use Rattle.runs.specs.Orphans.WatchVisitKept.{visit-stays, sent-keeps, asked-keeps, told-keeps, called-keeps}
+use Rattle.runs.specs.Orphans.WatchStore.{Keeps}
+
+-- ---- invoke: the call has the times of a visit that is there
+
+pub invoked-keeps :
+    (latest : ℕ) (t : Tables) (at : Places) (h site write object value place : ℕ) → slotOf h ≡ at .slot
+    → Fine (invokeChecks h site write object value (seenOf t at))
+    → Keeps latest t at (invokeDone h site write object value place (seenOf t at) .left)
+invoked-keeps latest t at h site write object value place own fine =
+    record {
+      clock = omega arith;
+      mail = inr (inl (invoke-empty h site write object value (seenOf t at) fine), inr own);
+      own =
+          λ e.
+          record {
+            passage = passage-stays latest (viewOf t (at .slot)) e;
+            visit = sent-keeps latest (viewOf t (at .slot)) (at .site) (callSite object);
+            mail =
+                seen-keeps
+                latest
+                (viewOf t (at .slot))
+                (at .slot)
+                (plainMessage
+                (Body.Call (callOf write object value (visitAt t (at .site) (at .slot))))
+                site
+                (callSite object)
+                h
+                (nextClock (siteAt t (at .site))))
+                (record { plain = λ y. refl; bounded = λ y b. omega (arith, b .visits (at .site) there .0, b .visits (at .site) there .1) });
+          };
+    }
+  where
+    there : visitAt t (at .site) (at .slot) .there ≡ true
+    there = not-false _ (fine .there)
+
+-- ---- deliver: the message was the slot's own
+
+module _ (latest : ℕ) (t : Tables) (at : Places) (m : ℕ) (own : slotOf (messageAt t (at .message) .handle) ≡ at .slot) where
+  abbrev letter : Message
+  letter = messageAt t (at .message)
+
+  abbrev seen : Seen
+  seen = seenOf t at
+
+  abbrev view : View
+  view = viewOf t (at .slot)
+
+  -- so what its body says is kept by the view
+  letter-keeps : (b : Body) → letter .body ≡ b → isEmpty b ≡ false → BodyKeeps latest view b
+  letter-keeps b body full =
+      subst
+      (BodyKeeps latest view)
+      (own-body (at .slot) letter b body full own)
+      (mail-keeps latest view (at .message))
+
+  pub call-keeps : (c : Call) → letter .body ≡ Body.Call c → Fine (callChecks m c seen) → Keeps latest t at (callDone m c seen .left)
+  call-keeps c body fine =
+      record {
+        clock = omega arith;
+        mail = inr (inr own, inl refl);
+        own =
+            λ e.
+            record {
+              passage = passage-stays latest view e;
+              visit =
+                  called-keeps
+                  latest
+                  view
+                  (at .site)
+                  (mailClock seen)
+                  c
+                  (omega arith)
+                  (letter-keeps (Body.Call c) body refl)
+                  (leb-false _ _ (or-left _ (calledVisit c (visitAt t (at .site) (at .slot)) .dead) (fine .early)));
+              mail = empty-keeps latest view;
+            };
+      }
+
+  -- the answer brings no time
+  reply-keeps : (v : Visit) → BodyKeeps latest view (replyOf v (mailClock seen) seen .body)
+  reply-keeps v =
+      cond-keeps
+      (λ (x : Message). BodyKeeps latest view (x .body))
+      (atHome seen)
+      noMessage
+      (answerMessage v (letter .destination) (passageAt t (at .slot) .home) (letter .handle) (mailClock seen))
+      (empty-keeps latest view)
+      (record { plain = λ h. refl; bounded = λ h b. zero-le })
+
+  pub phase-one-keeps :
+      (n : ℕ) (asked : Asked) → letter .body ≡ Body.PhaseOne n asked → Keeps latest t at (phaseOneDone m n asked seen .left)
+  phase-one-keeps n asked body =
+      record {
+        clock = omega arith;
+        mail = inr (inr own, reply-own (at .slot) (mailClock seen) asks seen own);
+        own =
+            λ e.
+            record {
+              passage = asked-home latest view (atHome seen) n asked says e;
+              visit = asked-keeps latest view (at .site) n (mailClock seen) asked says;
+              mail = seen-keeps latest view (at .slot) (replyOf asks (mailClock seen) seen) (reply-keeps asks);
+            };
+      }
+    where
+      asks : Visit
+      asks = askedVisit asked n (mailClock seen) (visitAt t (at .site) (at .slot))
+
+      says : BodyKeeps latest view (Body.PhaseOne n asked)
+      says = letter-keeps (Body.PhaseOne n asked) body refl
+
+  pub phase-two-keeps :
+      (n : ℕ) (told : Told) → letter .body ≡ Body.PhaseTwo n told → Keeps latest t at (phaseTwoDone m n told seen .left)
+  phase-two-keeps n told body =
+      record {
+        clock = omega arith;
+        mail = inr (inr own, inl refl);
+        own =
+            λ e.
+            record {
+              passage = told-home latest view (atHome seen) n told says e;
+              visit = told-keeps latest view (at .site) n told says;
+              mail = empty-keeps latest view;
+            };
+      }
+    where
+      says : BodyKeeps latest view (Body.PhaseTwo n told)
+      says = letter-keeps (Body.PhaseTwo n told) body refl
+
+  pub answer-keeps : (n received q : ℕ) → Keeps latest t at (answerDone m n received q seen .left)
+  answer-keeps n received q =
+      record {
+        clock = omega arith;
+        mail = inr (inr own, inl refl);
+        own =
+            λ e.
+            record {
+              passage =
+                  answered-keeps
+                  latest
+                  view
+                  (letter .source)
+                  (record { sent = letter .sent; received = received; quiesce = q })
+                  e;
+              visit = visit-stays latest view (at .site);
+              mail = empty-keeps latest view;
+            };
+      }
+
+  -- an accepted decision leaves what it decided
+  delivered-settled :
+      (d : Decision) → isAccepted (d .answer) ≡ true → Keeps latest t at (d .left) → Keeps latest t at (settleOf d seen .left)
+  delivered-settled d e x = rw e x
+
+  pub delivered-keeps :
+      (b : Body) → letter .body ≡ b → isAccepted (deliverBodyOf b m seen .answer) ≡ true
+      → Keeps latest t at (deliverBodyOf b m seen .left)
+  unfolding deliverBodyOf emptyOf deliverCallOf deliverPhaseOneOf deliverPhaseTwoOf deliverAnswerOf
+  delivered-keeps Body.Empty e y = absurd (true≢false (sym (ap isEmpty e) ∙ accepted-fine _ 0 y .found))
+  delivered-keeps (Body.Call c) e y = delivered-settled (callDone m c seen) y (call-keeps c e (accepted-fine _ _ y))
+  delivered-keeps (Body.PhaseOne n asked) e y = delivered-settled (phaseOneDone m n asked seen) y (phase-one-keeps n asked e)
+  delivered-keeps (Body.PhaseTwo n told) e y = delivered-settled (phaseTwoDone m n told seen) y (phase-two-keeps n told e)
+  delivered-keeps (Body.Answer n received q) e y = delivered-settled (answerDone m n received q seen) y (answer-keeps n received q)
+
+-- ---- drop: the message is lost
+
+pub lost-keeps :
+    (latest : ℕ) (t : Tables) (at : Places) → slotOf (messageAt t (at .message) .handle) ≡ at .slot
+    → Keeps latest t at (lost (seenOf t at))
+lost-keeps latest t at own =
+    record {
+      clock = omega arith;
+      mail = inr (inr own, inl refl);
+      own =
+          λ e.
+          record {
+            passage = passage-stays latest (viewOf t (at .slot)) e;
+            visit = visit-stays latest (viewOf t (at .slot)) (at .site);
+            mail = empty-keeps latest (viewOf t (at .slot));
+          };
+    }

@@ -1,0 +1,194 @@
+-- Every accepted step's store, and every slot's turn of a sweep or a crash, keeps the invariant behind demand 3. Assumes nothing.
+use Prim.Native.Nat.{ℕ, _<_}
+use native.Mathlib.Omega.{arith}
+use mathlib.Core.Path.{_≡_, refl}
+use mathlib.Core.Bool.{true, false, not, _&&_, _||_, false≢true}
+use mathlib.Core.List.{List}
+use Rattle.rules.specs.declared.looking.Trip.{Trip}
+use Rattle.rules.specs.LoopsLaws.{and-left}
+use Rattle.rules.specs.Tables.{start, passageAt, visitPlace, pastPassage, pastVisit, pastMessage, noVisit, noMessage, freeSlot}
+use Rattle.rules.specs.Answers.{isAccepted, settleOf}
+use Rattle.rules.specs.AnswersLaws.{accepted-fine}
+use Rattle.rules.specs.Checks.{badHandle, badTimes}
+use Rattle.rules.specs.Parts.{isActive, isAborted, isRunning}
+use Rattle.rules.specs.Stations.{tickOf, tickDone, sweepOf, sweepDone, crashOf, crashDone, recoverOf, recoverDone}
+use Rattle.rules.specs.Passages.{beginOf, beginDone, abortOf, abortDone, retireOf, retireDone}
+use Rattle.rules.specs.Rounds.{refreshOf, terminateOf, prepareOf, openOf, openDone, askOf, askDone, closeOf, closeDone, tellOf, tellDone}
+use Rattle.rules.specs.Calls.{invokeOf, invokeDone, dropOf, dropDone}
+use Rattle.rules.specs.Machine.{lookOf, placesOf, seenOf, remains, decideOf, headOf, tripPlaces, turnOf, foundOf}
+use Rattle.rules.specs.StoredLaws.{Sized, turn-stored}
+use Rattle.rules.specs.RangesLaws.{placed-places, placed-trip}
+use Rattle.rules.specs.Runs.{runOf}
+use Rattle.runs.specs.Types.{Kind, Status, Passage, Body, Tables, Step, Places, Seen, Decision, Outcome}
+use Rattle.runs.specs.Walk.Plain.{repeat-has}
+use Rattle.runs.specs.Times.View.{mailOf, viewOf}
+use Rattle.runs.specs.Walk.Steps.{ghostRun, run-keeps}
+use Rattle.runs.specs.Walk.Sizes.{sized-head, sized-turn}
+use Rattle.runs.specs.Times.Ledgers.{placesAt, seenAt}
+use Rattle.runs.specs.Orphans.Watch.{Known, Watch}
+use Rattle.runs.specs.Orphans.WatchKept.{Follows, follows-same, watch-unwatched, plain-free, aborted-free}
+use Rattle.runs.specs.Orphans.WatchStore.{knownHead, knownTurn, Keeps, Guards, keeps-guards, guarded}
+use Rattle.runs.specs.Orphans.WatchStations.{site-keeps, turned-keeps}
+use Rattle.runs.specs.Orphans.WatchLife.{begin-guards, abort-keeps, retire-guards}
+use Rattle.runs.specs.Orphans.WatchRounds.{refresh-keeps, terminate-keeps, prepare-guards, asked-out-keeps, told-out-keeps, close-keeps}
+use Rattle.runs.specs.Orphans.WatchCalls.{invoked-keeps, delivered-keeps, lost-keeps}
+
+-- ---- every accepted step
+
+module _ (latest site : ℕ) (t : Tables) (g : Known) where
+  -- all other steps leave what is known
+  abbrev stillKnown : Known
+  stillKnown = record { commit = g .commit; watched = g .watched && true; cleared = g .cleared }
+
+  still-follows : Follows g stillKnown
+  still-follows = record { commit = λ y. y; watched = λ y. and-left (g .watched) true y; cleared = λ y. y }
+
+  kept-guards : (at : Places) (left : Seen) → Keeps latest t at left → Guards latest site t at g (λ p. stillKnown) left
+  kept-guards at left x = keeps-guards latest site t at g (λ p. stillKnown) left (λ p. still-follows) x
+
+  -- an accepted decision leaves what it decided
+  settled-keeps :
+      (at : Places) (d : Decision) → isAccepted (d .answer) ≡ true → Keeps latest t at (d .left)
+      → Guards latest site t at g (λ p. stillKnown) (settleOf d (seenOf t at) .left)
+  settled-keeps at d e x = rw e (kept-guards at (d .left) x)
+
+  settled-guards :
+      (at : Places) (next : ℕ → Known) (d : Decision) → isAccepted (d .answer) ≡ true
+      → Guards latest site t at g next (d .left)
+      → Guards latest site t at g next (settleOf d (seenOf t at) .left)
+  settled-guards at next d e x = rw e x
+
+  decided-guards :
+      (step : Step) → Sized t
+      → isAccepted
+      (decideOf step (foundOf t (placesAt t step)) (seenAt t step) .answer)
+      ≡ true
+      → Guards
+      latest
+      site
+      t
+      (placesAt t step)
+      g
+      (λ p. knownHead p t step g)
+      (decideOf step (foundOf t (placesAt t step)) (seenAt t step) .left)
+  unfolding placesOf decideOf tickOf sweepOf crashOf recoverOf beginOf abortOf retireOf refreshOf terminateOf prepareOf openOf askOf closeOf tellOf invokeOf dropOf
+  decided-guards (Step.Tick a n) z e =
+      settled-keeps (placesAt t (Step.Tick a n)) (tickDone a n (seenAt t (Step.Tick a n))) e (site-keeps latest t (placesAt t (Step.Tick a n)) _ (omega arith))
+  decided-guards (Step.Begin home slot q r) z e =
+      settled-guards (placesAt t (Step.Begin home slot q r)) _ (beginDone home slot q r (seenAt t (Step.Begin home slot q r))) e (begin-guards latest site t (placesAt t (Step.Begin home slot q r)) g home slot q r refl (accepted-fine _ _ e))
+  decided-guards (Step.Invoke h a write object value) z e =
+      settled-keeps (placesAt t (Step.Invoke h a write object value)) (invokeDone h a write object value (placesAt t (Step.Invoke h a write object value) .message) (seenAt t (Step.Invoke h a write object value))) e (invoked-keeps latest t (placesAt t (Step.Invoke h a write object value)) h a write object value (placesAt t (Step.Invoke h a write object value) .message) refl (accepted-fine _ _ e))
+  decided-guards (Step.Refresh h q r) z e =
+      settled-keeps (placesAt t (Step.Refresh h q r)) (openDone h (Kind.Refresh q r) (badHandle h || badTimes q r) (not (isActive (seenAt t (Step.Refresh h q r) .passage .status))) (seenAt t (Step.Refresh h q r))) e (refresh-keeps latest t (placesAt t (Step.Refresh h q r)) h q r _ (accepted-fine _ _ e))
+  decided-guards (Step.Terminate h) z e =
+      settled-keeps (placesAt t (Step.Terminate h)) (openDone h Kind.Terminate (badHandle h) (not (isAborted (seenAt t (Step.Terminate h) .passage .status))) (seenAt t (Step.Terminate h))) e (terminate-keeps latest t (placesAt t (Step.Terminate h)) h (badHandle h) (not (isAborted (seenAt t (Step.Terminate h) .passage .status))))
+  decided-guards (Step.Prepare h) z e =
+      settled-guards (placesAt t (Step.Prepare h)) _ (openDone h Kind.Prepare (badHandle h) (not (isRunning (seenAt t (Step.Prepare h) .passage .status))) (seenAt t (Step.Prepare h))) e (prepare-guards latest site t (placesAt t (Step.Prepare h)) g h _ refl (accepted-fine _ _ e))
+  decided-guards (Step.Ask h a) z e =
+      settled-keeps (placesAt t (Step.Ask h a)) (askDone h a (placesAt t (Step.Ask h a) .message) (seenAt t (Step.Ask h a))) e (asked-out-keeps latest t (placesAt t (Step.Ask h a)) h a (placesAt t (Step.Ask h a) .message) refl (accepted-fine _ _ e))
+  decided-guards (Step.Close h) z e =
+      settled-keeps (placesAt t (Step.Close h)) (closeDone h (seenAt t (Step.Close h))) e (close-keeps latest t (placesAt t (Step.Close h)) h (accepted-fine _ _ e))
+  decided-guards (Step.Tell h a) z e =
+      settled-keeps (placesAt t (Step.Tell h a)) (tellDone h a (placesAt t (Step.Tell h a) .message) (seenAt t (Step.Tell h a))) e (told-out-keeps latest t (placesAt t (Step.Tell h a)) h a (placesAt t (Step.Tell h a) .message) refl (accepted-fine _ _ e))
+  decided-guards (Step.Abort h) z e =
+      settled-keeps (placesAt t (Step.Abort h)) (abortDone h (seenAt t (Step.Abort h))) e (abort-keeps latest t (placesAt t (Step.Abort h)) h)
+  decided-guards (Step.Deliver m) z e =
+      kept-guards (placesAt t (Step.Deliver m)) _ (delivered-keeps latest t (placesAt t (Step.Deliver m)) m refl (seenAt t (Step.Deliver m) .message .body) refl e)
+  decided-guards (Step.Drop m) z e =
+      settled-keeps (placesAt t (Step.Drop m)) (dropDone m (seenAt t (Step.Drop m))) e (lost-keeps latest t (placesAt t (Step.Drop m)) refl)
+  decided-guards (Step.Sweep a) z e =
+      settled-keeps (placesAt t (Step.Sweep a)) (sweepDone a (seenAt t (Step.Sweep a))) e (site-keeps latest t (placesAt t (Step.Sweep a)) _ (omega arith))
+  decided-guards (Step.Crash a) z e =
+      settled-keeps (placesAt t (Step.Crash a)) (crashDone a (seenAt t (Step.Crash a))) e (site-keeps latest t (placesAt t (Step.Crash a)) _ (omega arith))
+  decided-guards (Step.Recover a) z e =
+      settled-keeps (placesAt t (Step.Recover a)) (recoverDone a (seenAt t (Step.Recover a))) e (site-keeps latest t (placesAt t (Step.Recover a)) _ (omega arith))
+  decided-guards (Step.Retire h) z e =
+      settled-guards (placesAt t (Step.Retire h)) _ (retireDone h (remains t (placesAt t (Step.Retire h) .slot)) (seenAt t (Step.Retire h))) e (retire-guards latest site t (placesAt t (Step.Retire h)) g h z refl (accepted-fine _ _ e))
+
+-- ---- so the invariant is kept, for any slot, any latest time and any site
+
+module _ (latest site p : ℕ) (place : p < 16) where
+  pub watch-head :
+      (t : Tables) (step : Step) (g : Known) → Sized t → Watch latest site g (viewOf t p)
+      → isAccepted (headOf t step .answer) ≡ true
+      → Watch latest site (knownHead p t step g) (viewOf (headOf t step .tables) p)
+  unfolding headOf
+  watch-head t step g z k e =
+      guarded
+      latest
+      site
+      t
+      (placesAt t step)
+      g
+      (λ q. knownHead q t step g)
+      _
+      z
+      (placed-places t (lookOf step))
+      (decided-guards latest site t g step z e)
+      p
+      place
+      k
+
+  pub watch-turn :
+      (trip : Trip) (slot : ℕ) (o : Outcome) (g : Known) → slot < 16 → Sized (o .tables)
+      → Watch latest site g (viewOf (o .tables) p)
+      → Watch latest site g (viewOf (turnOf trip slot o .tables) p)
+  watch-turn trip slot o g i z k =
+      rw
+      (turn-stored trip slot o)
+      (guarded
+      latest
+      site
+      (o .tables)
+      (tripPlaces trip slot)
+      g
+      (λ q. g)
+      _
+      z
+      (placed-trip trip slot i)
+      (keeps-guards latest site (o .tables) (tripPlaces trip slot) g (λ q. g) _ (λ q. follows-same g) (turned-keeps latest (o .tables) trip slot))
+      p
+      place
+      k)
+
+  pub watch-run :
+      (t : Tables) (us : List Step) (g : Known) → Sized t → Watch latest site g (viewOf t p)
+      → Sized (runOf t us) × Watch latest site (ghostRun (knownHead p) knownTurn t us g) (viewOf (runOf t us) p)
+  watch-run t us g z k =
+      run-keeps
+      (knownHead p)
+      knownTurn
+      (λ u h. Sized u × Watch latest site h (viewOf u p))
+      (λ u s h x e. (sized-head u s (x .0), watch-head u s h (x .0) (x .1) e))
+      (λ trip slot o h i x. (sized-turn trip slot o (x .0), watch-turn trip slot o h i (x .0) (x .1)))
+      t
+      us
+      g
+      (z, k)
+
+-- ---- and holds at the start
+
+-- nothing is known yet
+abbrev pub knownNothing : Known
+knownNothing = record { commit = false; watched = false; cleared = false }
+
+pub watch-start : (latest site p : ℕ) → Watch latest site knownNothing (viewOf start p)
+unfolding start
+watch-start latest site p =
+    watch-unwatched
+    latest
+    site
+    knownNothing
+    (viewOf start p)
+    false≢true
+    (λ e. absurd (aborted-free _ e free))
+    (λ e.
+    plain-free
+    (viewOf start p)
+    free
+    (repeat-has (λ (x : Passage). x .round .kind ≡ Kind.None) 16 (freeSlot 0) pastPassage refl refl p)
+    (λ s. repeat-has (λ v. v .there ≡ false) 128 noVisit pastVisit refl refl (visitPlace s p))
+    (λ k. repeat-has (λ m. mailOf p m .body ≡ Body.Empty) 32 noMessage pastMessage refl refl k))
+  where
+    free : passageAt start p .status ≡ Status.Free
+    free = repeat-has (λ (x : Passage). x .status ≡ Status.Free) 16 (freeSlot 0) pastPassage refl refl p

@@ -1,0 +1,275 @@
+-- An object is let go only with its visit: what a station has promised, with the figures that the passage holds there, stays until home's word.
+-- Assumes nothing.
+use Prim.Native.Nat.{ℕ, _+_, _*_, _/_, _%_, _<_}
+use native.Mathlib.Omega.{arith}
+use mathlib.Core.Path.{_≡_, refl, sym, ap, _∙_, subst₂}
+use mathlib.Core.Logic.{_≢_, ⊎-elim, _⊎_, inl, inr}
+use mathlib.Core.Bool.{Bool, true, false, cond, true≢false}
+use mathlib.Core.List.{List, [], _∷_, _++_}
+use lib.ListN.{getD}
+use lib.Seq.{getD-set-same, getD-set-other}
+use borrow.Author.Tests.{ne-eqb}
+use Rattle.rules.specs.declared.tables.Holder.{Holder}
+use Rattle.rules.specs.declared.tables.Object.{Object}
+use Rattle.rules.specs.declared.looking.Trip.{Trip}
+use Rattle.rules.specs.declared.outcomes.Check.{Check}
+use Rattle.rules.specs.LoopsLaws.{either, cond-keeps}
+use Rattle.rules.specs.Tables.{start, pastObject, siteAt, objectAt, passageAt, visitAt, bankAt, objectSite, slotOf}
+use Rattle.rules.specs.Answers.{firstOf, settleOf}
+use Rattle.rules.specs.Parts.{nextClock, isHeldBy, taken, operated, unheld, freed, restored, eachOf, toldVisit, toldObjects}
+use Rattle.rules.specs.Stations.{isSwept, sweptSlot, crashedSlot}
+use Rattle.rules.specs.Rounds.{roundTold, closed, closeOf}
+use Rattle.rules.specs.Calls.{mailSlot, calledObject, called, deliverCallOf, deliverPhaseOneOf, deliverPhaseTwoOf, deliverBodyOf}
+use Rattle.rules.specs.Machine.{lookOf, placesOf, seenOf, bodyBank, decideOf, stored, headOf, turnOf, stepOf, tripPlaces, turnSeen}
+use Rattle.rules.specs.StoredLaws.{Sized, Placed, visit-after-stored, turn-stored}
+use Rattle.rules.specs.RangesLaws.{placed-places, placed-trip}
+use Rattle.rules.specs.Runs.{runOf}
+use Rattle.rules.specs.StoredObjects.{seen-object-at, object-after-stored, object-after-stored-other, each-at}
+use Rattle.rules.specs.Views.{settled, Objects, Mail, mailOf, deedOf}
+use Rattle.runs.specs.Types.{Visit, Call, Told, Body, Tables, Step, Places, Seen, Outcome, Found}
+use Rattle.runs.specs.Walk.Put.{same-or-other}
+use Rattle.runs.specs.Walk.Steps.{run-on}
+use Rattle.runs.specs.Walk.Sizes.{sized-run, sized-step, sized-step-has}
+use Rattle.runs.specs.Promises.Promised.{Promised, isWord, stored-has, promised-stays}
+
+-- ---- single objects
+
+-- an object that p lets go stays with any other that holds it
+let-go-other :
+    (p q value : ℕ) (o : Object) → o .holder ≡ Holder.Slot q → q ≢ p
+    → cond (isHeldBy p (o .holder)) (unheld value) o .holder ≡ Holder.Slot q
+let-go-other p q value o e n = rw (ap (isHeldBy p) e ∙ ne-eqb q p n) e
+
+-- a call takes no object that is held
+taken-held : (p q : ℕ) (c : Call) (o : Object) → o .holder ≡ Holder.Slot q → operated c (taken p o) .holder ≡ Holder.Slot q
+taken-held p q c o e = both (c .write)
+  where
+    same : taken p o .holder ≡ Holder.Slot q
+    same = rw e
+
+    both : (w : Bool) → cond w (record { value = c .value; holder = taken p o .holder; before = taken p o .before }) (taken p o) .holder ≡ Holder.Slot q
+    both true = same
+    both false = same
+
+-- ---- what a decision leaves of the objects that it saw
+
+-- who held one holds it, or is the step's own slot, whose visit at that site is gone
+record Fast (t : Tables) (at : Places) (left : Seen) : Type 0 where
+  holds :
+      (i q : ℕ) → i < 4 → getD (bankAt t (at .bank)) i pastObject .holder ≡ Holder.Slot q
+      → (getD (left .objects) i pastObject .holder ≡ Holder.Slot q)
+      ⊎ ((q ≡ at .slot) × ((at .bank ≡ at .site) × (left .visit .there ≡ false)))
+
+module _ (t : Tables) (at : Places) where
+  same-fast : (left : Seen) → left .objects ≡ bankAt t (at .bank) → Fast t at left
+  same-fast left o = record { holds = λ i q l e. inl (rw o e) }
+
+  settled-fast :
+      (cs : List Check) (v : ℕ) (left : Seen) → Fast t at left
+      → Fast t at (settleOf (record { answer = firstOf cs v; left = left }) (seenOf t at) .left)
+  settled-fast cs v left f =
+      settled (Fast t at) cs v (seenOf t at) left (λ g. f) (same-fast (seenOf t at) refl)
+
+  -- the visit goes, and lets go of what it held at its site; who else holds an object there keeps it
+  let-go-fast :
+      (f : Object → Object) (left : Seen) → ((o : Object) (q : ℕ) → o .holder ≡ Holder.Slot q → q ≢ at .slot → f o .holder ≡ Holder.Slot q)
+      → left .objects ≡ eachOf f (bankAt t (at .bank))
+      → at .bank ≡ at .site
+      → left .visit .there ≡ false
+      → Fast t at left
+  let-go-fast f left law o b gone =
+      record {
+        holds =
+            λ i q l e.
+            ⊎-elim
+            (λ y. inr (y, (b, gone)))
+            (λ n.
+            inl
+            (ap (λ (os : List Object). getD os i pastObject .holder) o
+            ∙ ap (λ (x : Object). x .holder) (each-at f (bankAt t (at .bank)) i l)
+            ∙ law (getD (bankAt t (at .bank)) i pastObject) q e n))
+            (same-or-other q (at .slot));
+      }
+
+  -- a phase 2 part
+  told-fast :
+      (told : Told) (left : Seen) → left .visit ≡ toldVisit told (visitAt t (at .site) (at .slot))
+      → left .objects ≡ toldObjects told (at .slot) (bankAt t (at .bank))
+      → at .bank ≡ at .site
+      → Fast t at left
+  told-fast (Told.Refresh q) left v o b = same-fast left o
+  told-fast (Told.Terminate m) left v o b = same-fast left o
+  told-fast Told.Prepare left v o b = let-go-fast (freed (at .slot)) left (λ x q. let-go-other (at .slot) q _ x) o b (ap (λ (x : Visit). x .there) v)
+
+  -- a close does it where the home visit is there
+  closed-fast : (told : Told) (clock : ℕ) → at .bank ≡ at .site → Fast t at (closed told (at .slot) clock (seenOf t at))
+  closed-fast told clock b =
+      ⊎-elim
+      (λ e. told-fast told _ (rw e) (rw e) b)
+      (λ e. same-fast (closed told (at .slot) clock (seenOf t at)) (rw e))
+      (either (visitAt t (at .site) (at .slot) .there))
+
+  close-fast : (h : ℕ) → slotOf h ≡ at .slot → at .bank ≡ at .site → Fast t at (closeOf h (seenOf t at) .left)
+  unfolding closeOf
+  close-fast h s b =
+      settled-fast _ _ _ (rw s (closed-fast (roundTold (passageAt t (at .slot) .round)) (nextClock (siteAt t (at .site))) b))
+
+  -- a delivered call changes one object, and not who holds it
+  called-fast : (c : Call) (clock : ℕ) → Fast t at (called c clock (seenOf t at))
+  called-fast c clock =
+      record {
+        holds =
+            λ i q l e.
+            ⊎-elim
+            (λ (y : i ≡ c .object % 4).
+            inl
+            (rw
+            (y, getD-set-same (bankAt t (at .bank)) (c .object % 4) (operated c (taken (mailSlot (seenOf t at)) (calledObject c (seenOf t at)))) pastObject (omega arith))
+            (taken-held (mailSlot (seenOf t at)) q c (calledObject c (seenOf t at)) (rw y at e))))
+            (λ n. inl (ap (λ (o : Object). o .holder) (getD-set-other (bankAt t (at .bank)) (c .object % 4) i _ pastObject n) ∙ e))
+            (same-or-other i (c .object % 4));
+      }
+
+  mail-fast :
+      (body : Body) (m : ℕ) → Mail body → at .slot ≡ mailSlot (seenOf t at) → at .bank ≡ bodyBank body (at .site)
+      → Fast t at (deliverBodyOf body m (seenOf t at) .left)
+  unfolding deliverBodyOf deliverCallOf deliverPhaseOneOf deliverPhaseTwoOf
+  mail-fast _ m (Mail.Calls c) s b = settled-fast _ _ _ (called-fast c _)
+  mail-fast _ m (Mail.Asks n asked) s b = settled-fast _ _ _ (same-fast _ refl)
+  mail-fast _ m (Mail.Tells n told) s b = settled-fast _ _ _ (told-fast told _ refl (rw s) b)
+  mail-fast _ m (Mail.Quiet body objects visit) s b = same-fast _ (objects m (seenOf t at))
+
+  -- one slot of a sweep, and one of a crash
+  turned-fast : (trip : Trip) → at .bank ≡ at .site → Fast t at (turnSeen trip (at .slot) (seenOf t at))
+  unfolding sweptSlot crashedSlot
+  turned-fast Trip.Nowhere b = same-fast (seenOf t at) refl
+  turned-fast (Trip.Sweep site) b =
+      ⊎-elim
+      (λ e. rw e (let-go-fast (restored (at .slot)) _ (λ x q. let-go-other (at .slot) q _ x) refl b refl))
+      (λ e. rw e (same-fast (seenOf t at) refl))
+      (either (isSwept (seenOf t at)))
+  turned-fast (Trip.Crash site) b = same-fast (crashedSlot site (at .slot) (seenOf t at)) refl
+
+-- neither makes a visit
+turned-gone : (trip : Trip) (n : ℕ) (seen : Seen) → seen .visit .there ≡ false → turnSeen trip n seen .visit .there ≡ false
+unfolding sweptSlot crashedSlot
+turned-gone Trip.Nowhere n seen e = e
+turned-gone (Trip.Sweep site) n seen e = cond-keeps (λ (x : Seen). x .visit .there ≡ false) (isSwept seen) _ seen refl e
+turned-gone (Trip.Crash site) n seen e = rw e
+
+seen-fast :
+    (t : Tables) (step : Step) (found : Found) → Objects step
+    → Fast t (placesOf t (lookOf step)) (decideOf step found (seenOf t (placesOf t (lookOf step))) .left)
+unfolding placesOf decideOf
+seen-fast t _ found (Objects.Closes h) = close-fast t _ h refl refl
+seen-fast t _ found (Objects.Delivers m) = mail-fast t _ _ m (mailOf _) refl refl
+seen-fast t _ found (Objects.Stay step c d stay) = same-fast t _ _ (stay found (seenOf t (placesOf t (lookOf step))))
+
+decided-fast :
+    (t : Tables) (step : Step) (found : Found)
+    → Fast t (placesOf t (lookOf step)) (decideOf step found (seenOf t (placesOf t (lookOf step))) .left)
+decided-fast t step found = seen-fast t step found (deedOf step .objects)
+
+-- ---- steps, for one object and the slot that held it
+
+module _ (k p : ℕ) (slot : p < 16) where
+  -- p holds the object, or has no visit at its site
+  abbrev pub HeldOrGone : Tables → Type 0
+  HeldOrGone t = (objectAt t k .holder ≡ Holder.Slot p) ⊎ (visitAt t (objectSite k) p .there ≡ false)
+
+  stored-fast :
+      (t : Tables) (at : Places) (left : Seen) → Sized t → Placed at → Fast t at left → objectAt t k .holder ≡ Holder.Slot p
+      → HeldOrGone (stored t at left)
+  stored-fast t at left z h f e =
+      ⊎-elim
+      (λ (b : objectSite k ≡ at .bank).
+      let q : k / 4 ≡ at .bank = b in
+      let y : 4 * at .bank + k % 4 ≡ k = omega arith in
+      ⊎-elim
+      (λ x. inl (ap (λ (o : Object). o .holder) (object-after-stored t at left z h k b) ∙ x))
+      (λ x. inr (rw (b ∙ x .1 .0, x .0, visit-after-stored t at left z h) (x .1 .1)))
+      (f .holds (k % 4) p (omega arith) (ap (λ (o : Object). o .holder) (seen-object-at t (at .bank) (k % 4) (omega arith)) ∙ (rw y e))))
+      (λ n. inl (ap (λ (o : Object). o .holder) (object-after-stored-other t at left k n) ∙ e))
+      (same-or-other (objectSite k) (at .bank))
+
+  turn-fast :
+      (trip : Trip) (n : ℕ) (o : Outcome) → n < 16 → Sized (o .tables) → HeldOrGone (o .tables)
+      → HeldOrGone (turnOf trip n o .tables)
+  turn-fast trip n o l z h =
+      let at : Places = tripPlaces trip n in
+      rw
+      (turn-stored trip n o)
+      (⊎-elim
+      (λ e. stored-fast (o .tables) at _ z (placed-trip trip n l) (turned-fast (o .tables) at trip refl) e)
+      (λ e.
+      inr
+      (stored-has (λ v. v .there ≡ false) (o .tables) at _ z (placed-trip trip n l) (objectSite k) p slot
+      (λ a b. turned-gone trip n (seenOf (o .tables) at) (subst₂ (λ (x y : ℕ). visitAt (o .tables) x y .there ≡ false) a b e))
+      e))
+      h)
+
+  head-fast : (t : Tables) (step : Step) → Sized t → objectAt t k .holder ≡ Holder.Slot p → HeldOrGone (headOf t step .tables)
+  unfolding headOf
+  head-fast t step z e = stored-fast t (placesOf t (lookOf step)) _ z (placed-places t (lookOf step)) (decided-fast t step _) e
+
+  -- in any tables: after every step the slot that held the object holds it, or has no visit at its site
+  pub let-go-with-visit :
+      (t : Tables) (step : Step) → Sized t → objectAt t k .holder ≡ Holder.Slot p
+      → (objectAt (stepOf t step .tables) k .holder ≡ Holder.Slot p)
+      ⊎ (visitAt (stepOf t step .tables) (objectSite k) p .there ≡ false)
+  let-go-with-visit t step z e =
+      sized-step-has
+      t
+      step
+      z
+      (λ n u. HeldOrGone u)
+      (turn-fast (lookOf step .trip))
+      (λ a. head-fast t step z e)
+      HeldOrGone
+      (inl e)
+      (λ u y. y)
+
+-- ---- runs
+
+-- What a station has promised it keeps: in every run, an object that a passage holds where its visit is prepared
+-- is held by it after every step that is no word of home to that visit
+pub promised-object-held :
+    (ss : List Step) (step : Step) (k p : ℕ) → p < 16 → Promised (runOf start ss) (objectSite k) p
+    → objectAt (runOf start ss) k .holder ≡ Holder.Slot p
+    → isWord (runOf start ss) (objectSite k) p step ≡ false
+    → objectAt (stepOf (runOf start ss) step .tables) k .holder ≡ Holder.Slot p
+promised-object-held ss step k p slot promised held f =
+    ⊎-elim
+    (λ e. e)
+    (λ gone. absurd (true≢false (sym (promised-stays (objectSite k) p slot (runOf start ss) step (sized-run ss) promised f) ∙ gone)))
+    (let-go-with-visit k p slot (runOf start ss) step (sized-run ss) held)
+
+-- the visit of this slot is there after each of the steps
+unfoldable pub ThereThrough : Tables → ℕ → ℕ → List Step → Type 0
+ThereThrough t site slot [] = Unit {0}
+ThereThrough t site slot (x ∷ xs) = (visitAt (stepOf t x .tables) site slot .there ≡ true) × ThereThrough (stepOf t x .tables) site slot xs
+
+held-through :
+    (t : Tables) (ss : List Step) (k p : ℕ) → p < 16 → Sized t → objectAt t k .holder ≡ Holder.Slot p
+    → ThereThrough t (objectSite k) p ss
+    → objectAt (runOf t ss) k .holder ≡ Holder.Slot p
+unfolding runOf ThereThrough
+held-through t [] k p slot z held there = held
+held-through t (x ∷ xs) k p slot z held there =
+    held-through
+    (stepOf t x .tables)
+    xs
+    k
+    p
+    slot
+    (sized-step t x z)
+    (⊎-elim (λ e. e) (λ gone. absurd (true≢false (sym (there .0) ∙ gone))) (let-go-with-visit k p slot t x z held))
+    (there .1)
+
+-- an object that a passage holds is held by it as long as its visit at the object's site is there
+pub object-held-while-visit-there :
+    (before after : List Step) (k p : ℕ) → p < 16 → objectAt (runOf start before) k .holder ≡ Holder.Slot p
+    → ThereThrough (runOf start before) (objectSite k) p after
+    → objectAt (runOf start (before ++ after)) k .holder ≡ Holder.Slot p
+object-held-while-visit-there before after k p slot held there =
+    rw (run-on start before after) (held-through (runOf start before) after k p slot (sized-run before) held there)

@@ -1,0 +1,348 @@
+-- A promise stands until home lets the station off: no step but home's own takes a prepared visit or its mark. Assumes nothing.
+use Prim.Native.Nat.{ℕ, _%_, _<_}
+use mathlib.Core.Path.{_≡_, refl, sym, _∙_, subst, subst₂}
+use mathlib.Core.Logic.{⊎-elim}
+use mathlib.Core.Bool.{Bool, true, false, cond, _&&_, _||_, true≢false}
+use mathlib.Core.List.{List, [], _∷_, _++_}
+use lib.Dec.{eqb}
+use borrow.Author.Tests.{eq-eqb}
+use Rattle.rules.specs.declared.tables.Holder.{Holder}
+use Rattle.rules.specs.declared.looking.Trip.{Trip}
+use Rattle.rules.specs.declared.outcomes.Check.{Check}
+use Rattle.rules.specs.LoopsLaws.{either, or-left, or-right, not-false, cond-keeps}
+use Rattle.rules.specs.Tables.{start, objectAt, passageAt, visitAt, messageAt, objectSite, slotOf}
+use Rattle.rules.specs.Answers.{isAccepted, firstOf, settleOf}
+use Rattle.rules.specs.AnswersLaws.{Fine}
+use Rattle.rules.specs.Parts.{isFree, abortedPassage, whereThere, toldOf, toldVisit, askedVisit}
+use Rattle.rules.specs.Stations.{crashChecks, crashOf, losesHome, crashedSlot}
+use Rattle.rules.specs.Passages.{beginOf, abortOf}
+use Rattle.rules.specs.Rounds.{openOf, terminateOf, prepareOf, closeOf}
+use Rattle.rules.specs.Calls.{deliverCallOf, deliverPhaseOneOf, deliverPhaseTwoOf, deliverBodyOf}
+use Rattle.rules.specs.Machine.{lookOf, placesOf, seenOf, decideOf, stored, headOf, turnOf, stepOf, tripSite, tripPlaces, turnSeen}
+use Rattle.rules.specs.StoredLaws.{Sized, Placed, passage-after-stored, passage-after-stored-other, turn-stored}
+use Rattle.rules.specs.RangesLaws.{placed-places, placed-trip}
+use Rattle.rules.specs.RefusedLaws.{refused-leaves}
+use Rattle.rules.specs.Record.{flatOf, isStep}
+use Rattle.rules.specs.Runs.{runOf}
+use Rattle.rules.specs.Views.{settled, Marks, Mail, mailOf, Goes, deedOf}
+use Rattle.runs.specs.Types.{Kind, Passage, Visit, Asked, Told, Body, Message, Tables, Step, Places, Seen, Outcome, Found}
+use Rattle.runs.specs.Walk.Put.{same-or-other}
+use Rattle.runs.specs.Fits.Life.{free-says}
+use Rattle.runs.specs.Walk.Steps.{run-on}
+use Rattle.runs.specs.Walk.Sizes.{sized-run, sized-step-has}
+use Rattle.runs.specs.Times.RunLaws.{free-no-visit}
+use Rattle.runs.specs.Orphans.Rests.{isPrepare, carriesCommit}
+use Rattle.runs.specs.Promises.Promised.{Promised, isWord, stored-has, prepared-not-swept, word-here}
+use Rattle.runs.specs.Orphans.Orphans.{tellsPrepare}
+use Rattle.runs.specs.Promises.HeldFast.{let-go-with-visit}
+
+-- ---- definitions
+
+-- a message that asks to terminate
+abbrev pub isTerminate : Asked → Bool
+isTerminate (Asked.Refresh r) = false
+isTerminate Asked.Terminate = true
+isTerminate Asked.Prepare = false
+
+abbrev pub asksTerminate : Body → Bool
+asksTerminate Body.Empty = false
+asksTerminate (Body.Call c) = false
+asksTerminate (Body.PhaseOne n asked) = isTerminate asked
+asksTerminate (Body.PhaseTwo n told) = false
+asksTerminate (Body.Answer n r q) = false
+
+-- does the step let the station off its promise to this slot? By the commit's last word (a close, code 8, or a delivery, code 11); by a terminate's first (code 5, or a delivery);
+-- and at home by an abort (code 10), or by a crash (code 14) while the passage runs
+abbrev pub letsOff : Tables → ℕ → ℕ → Step → Bool
+letsOff t site slot step =
+    let m : Message = messageAt t (flatOf step .c % 32) in
+    cond
+    (isStep 5 step || isStep 10 step)
+    (eqb (slotOf (flatOf step .h)) slot && eqb (passageAt t slot .home % 8) site)
+    (cond
+    (isStep 8 step)
+    (isWord t site slot step)
+    (cond
+    (isStep 11 step)
+    (eqb (slotOf (m .handle)) slot && eqb (m .destination % 8) site && (carriesCommit (m .body) || asksTerminate (m .body)))
+    (isStep 14 step && (eqb (flatOf step .a % 8) site && losesHome (flatOf step .a) (passageAt t slot)))))
+
+-- whether an accepted step of the list does
+unfoldable pub letOffIn : Tables → ℕ → ℕ → List Step → Bool
+letOffIn t site slot [] = false
+letOffIn t site slot (x ∷ xs) =
+    (isAccepted (stepOf t x .answer) && letsOff t site slot x) || letOffIn (stepOf t x .tables) site slot xs
+
+-- ---- what a decision leaves of its visit
+
+-- there and prepared
+abbrev Stands : Visit → Type 0
+Stands v = (v .there ≡ true) × (v .prepared ≡ true)
+
+-- an accepted decision leaves what was decided where no check holds
+settled-stands :
+    (cs : List Check) (v : ℕ) (seen left : Seen) → (Fine cs → Stands (left .visit)) → Stands (seen .visit)
+    → Stands (settleOf (record { answer = firstOf cs v; left = left }) seen .left .visit)
+settled-stands cs v seen left = settled (λ (x : Seen). Stands (x .visit)) cs v seen left
+
+-- a round of another kind opens or closes: the mark stays
+closed-stands : (k : Kind) (m : ℕ) (v : Visit) → Stands v → isPrepare k ≡ false → Stands (whereThere v (toldVisit (toldOf k m) v))
+closed-stands Kind.None m v e f = cond-keeps Stands (v .there) _ v e e
+closed-stands (Kind.Refresh q r) m v e f = cond-keeps Stands (v .there) _ v e e
+closed-stands Kind.Terminate m v e f = cond-keeps Stands (v .there) _ v e e
+closed-stands Kind.Prepare m v e f = absurd (true≢false f)
+
+asked-stands : (asked : Asked) (n clock : ℕ) (v : Visit) → Stands v → isTerminate asked ≡ false → Stands (askedVisit asked n clock v)
+asked-stands (Asked.Refresh r) n clock v k f = k
+asked-stands Asked.Terminate n clock v k f = absurd (true≢false f)
+asked-stands Asked.Prepare n clock v k f = (k .0, refl)
+
+told-stands : (told : Told) (v : Visit) → Stands v → tellsPrepare told ≡ false → Stands (toldVisit told v)
+told-stands (Told.Refresh q) v k f = k
+told-stands (Told.Terminate m) v k f = k
+told-stands Told.Prepare v k f = absurd (true≢false f)
+
+mail-stands :
+    (body : Body) (m : ℕ) (seen : Seen) → Mail body → Stands (seen .visit) → (carriesCommit body || asksTerminate body) ≡ false
+    → Stands (deliverBodyOf body m seen .left .visit)
+unfolding deliverBodyOf deliverCallOf deliverPhaseOneOf deliverPhaseTwoOf
+mail-stands _ m seen (Mail.Calls c) k f = settled-stands _ _ seen _ (λ g. rw (k .0) (refl, k .1)) k
+mail-stands _ m seen (Mail.Asks n asked) k f = settled-stands _ _ seen _ (λ g. asked-stands asked n _ (seen .visit) k f) k
+mail-stands _ m seen (Mail.Tells n told) k f = settled-stands _ _ seen _ (λ g. told-stands told (seen .visit) k (or-left (tellsPrepare told) false f)) k
+mail-stands _ m seen (Mail.Quiet body objects visit) k f = rw (visit m seen) k
+
+-- at its own slot and site a step of home lets off
+home-here : (a b : ℕ) → (eqb a a && eqb b b) ≡ false → ⊥
+home-here a b f = true≢false (rw (eq-eqb a a refl, eq-eqb b b refl) at f)
+
+-- a slot in use is not begun
+marked-stands :
+    (t : Tables) (step : Step) (found : Found) → Marks step → Stands (visitAt t (placesOf t (lookOf step) .site) (placesOf t (lookOf step) .slot))
+    → isFree (passageAt t (placesOf t (lookOf step) .slot) .status) ≡ false
+    → letsOff t (placesOf t (lookOf step) .site) (placesOf t (lookOf step) .slot) step ≡ false
+    → Stands (decideOf step found (seenOf t (placesOf t (lookOf step))) .left .visit)
+unfolding placesOf decideOf beginOf abortOf terminateOf prepareOf openOf closeOf
+marked-stands t _ found (Marks.Begins home slot q r) k u f =
+    settled-stands _ _ _ _ (λ g. absurd (true≢false (sym (not-false (isFree (passageAt t (slotOf slot) .status)) (g .state)) ∙ u))) k
+marked-stands t _ found (Marks.Terminates h) k u f = absurd (home-here (slotOf h) (passageAt t (slotOf h) .home % 8) f)
+marked-stands t _ found (Marks.Prepares h) k u f = settled-stands _ _ _ _ (λ g. (k .0, refl)) k
+marked-stands t _ found (Marks.Closes h) k u f =
+    settled-stands
+    _
+    _
+    _
+    _
+    (λ g. closed-stands (passageAt t (slotOf h) .round .kind) _ _ k (word-here (slotOf h) (passageAt t (slotOf h) .home % 8) _ f))
+    k
+marked-stands t _ found (Marks.Aborts h) k u f = absurd (home-here (slotOf h) (passageAt t (slotOf h) .home % 8) f)
+marked-stands t _ found (Marks.Delivers m) k u f =
+    mail-stands
+    (messageAt t (m % 32) .body)
+    m
+    _
+    (mailOf (messageAt t (m % 32) .body))
+    k
+    (word-here (slotOf (messageAt t (m % 32) .handle)) (messageAt t (m % 32) .destination % 8) _ f)
+marked-stands t _ found (Marks.Stay step there prepared) k u f =
+    let seen = seenOf t (placesOf t (lookOf step)) in
+    (there found seen ∙ k .0, prepared found seen ∙ k .1)
+
+decided-stands :
+    (t : Tables) (step : Step) (found : Found) → Stands (visitAt t (placesOf t (lookOf step) .site) (placesOf t (lookOf step) .slot))
+    → isFree (passageAt t (placesOf t (lookOf step) .slot) .status) ≡ false
+    → letsOff t (placesOf t (lookOf step) .site) (placesOf t (lookOf step) .slot) step ≡ false
+    → Stands (decideOf step found (seenOf t (placesOf t (lookOf step))) .left .visit)
+decided-stands t step found = marked-stands t step found (deedOf step .marks)
+
+-- ---- what one slot of a sweep or of a crash leaves of its visit and its passage
+
+-- a crash is not that of the passage's home
+abbrev Stays : Trip → Passage → Type 0
+Stays Trip.Nowhere x = Unit {0}
+Stays (Trip.Sweep site) x = Unit {0}
+Stays (Trip.Crash site) x = losesHome site x ≡ false
+
+turned-stands : (trip : Trip) (n : ℕ) (seen : Seen) → Stays trip (seen .passage) → Stands (seen .visit) → Stands (turnSeen trip n seen .visit)
+unfolding crashedSlot
+turned-stands Trip.Nowhere n seen w k = k
+turned-stands (Trip.Sweep site) n seen w k = rw (prepared-not-swept site n seen (k .1)) k
+turned-stands (Trip.Crash site) n seen w k = cond-keeps Stands (seen .visit .there) _ (seen .visit) (rw (w, k .1) (k .0, refl)) k
+
+turned-stays : (trip : Trip) (n : ℕ) (seen : Seen) → Stays trip (seen .passage) → Stays trip (turnSeen trip n seen .passage)
+unfolding crashedSlot
+turned-stays Trip.Nowhere n seen w = tt
+turned-stays (Trip.Sweep site) n seen w = tt
+turned-stays (Trip.Crash site) n seen w =
+    subst (λ (c : Bool). losesHome site (cond c (abortedPassage (seen .passage)) (seen .passage)) ≡ false) (sym w) w
+
+-- ---- steps, for the visit of one slot at one site
+
+-- what holds of the passage that a store leaves in its own slot, and of every other, holds of all
+passage-has :
+    (P : Passage → Type 0) (t : Tables) (at : Places) (left : Seen) → Sized t → Placed at → (p : ℕ)
+    → (p ≡ at .slot → P (left .passage))
+    → P (passageAt t p)
+    → P (passageAt (stored t at left) p)
+passage-has P t at left z h p own other =
+    ⊎-elim
+    (λ (e : p ≡ at .slot). rw (e, passage-after-stored t at left z h) (own e))
+    (λ n. rw (passage-after-stored-other t at left p n) other)
+    (same-or-other p (at .slot))
+
+module _ (s p : ℕ) (slot : p < 16) where
+  -- what is kept on a step's way: the visit, and that a crash at its own site is not that of its passage's home
+  abbrev Away : Trip → Passage → Type 0
+  Away trip x = s ≡ tripSite trip % 8 → Stays trip x
+
+  abbrev OnWay : Trip → Tables → Type 0
+  OnWay trip u = Stands (visitAt u s p) × Away trip (passageAt u p)
+
+  head-stands :
+      (t : Tables) (step : Step) → Sized t → Promised t s p → isFree (passageAt t p .status) ≡ false → letsOff t s p step ≡ false
+      → Stands (visitAt (headOf t step .tables) s p)
+  unfolding headOf
+  head-stands t step z k u f =
+      stored-has
+      Stands
+      t
+      (placesOf t (lookOf step))
+      _
+      z
+      (placed-places t (lookOf step))
+      s
+      p
+      slot
+      (λ a b.
+      decided-stands
+      t
+      step
+      _
+      (subst₂ (λ (x y : ℕ). Stands (visitAt t x y)) a b (k .there, k .prepared))
+      (subst (λ (y : ℕ). isFree (passageAt t y .status) ≡ false) b u)
+      (subst₂ (λ (x y : ℕ). letsOff t x y step ≡ false) a b f))
+      (k .there, k .prepared)
+
+  -- a crash's own store leaves the passages
+  crash-away : (t : Tables) (site : ℕ) → Sized t → (P : Passage → Type 0) → P (passageAt t p) → P (passageAt (headOf t (Step.Crash site) .tables) p)
+  unfolding headOf decideOf crashOf
+  crash-away t site z P k =
+      let at : Places = placesOf t (lookOf (Step.Crash site)) in
+      passage-has
+      P
+      t
+      at
+      _
+      z
+      (placed-places t (lookOf (Step.Crash site)))
+      p
+      (λ b. cond-keeps (λ (x : Seen). P (x .passage)) (isAccepted (firstOf (crashChecks site (seenOf t at)) 0)) _ (seenOf t at) (subst (λ (y : ℕ). P (passageAt t y)) b k) (subst (λ (y : ℕ). P (passageAt t y)) b k))
+      k
+
+  goes-away :
+      (t : Tables) (step : Step) → Goes step → Sized t → letsOff t s p step ≡ false → Away (lookOf step .trip) (passageAt (headOf t step .tables) p)
+  goes-away t _ (Goes.Sweeps site) z f = λ e. tt
+  goes-away t _ (Goes.Crashes site) z f =
+      crash-away
+      t
+      site
+      z
+      (λ x. s ≡ site % 8 → losesHome site x ≡ false)
+      (λ e. rw (eq-eqb (site % 8) s (sym e)) at f)
+  goes-away t _ (Goes.Nowhere step none) z f = rw none (λ e. tt)
+
+  head-away :
+      (t : Tables) (step : Step) → Sized t → letsOff t s p step ≡ false → Away (lookOf step .trip) (passageAt (headOf t step .tables) p)
+  head-away t step = goes-away t step (deedOf step .goes)
+
+  turn-on-way :
+      (trip : Trip) (n : ℕ) (o : Outcome) → n < 16 → Sized (o .tables) → OnWay trip (o .tables) → OnWay trip (turnOf trip n o .tables)
+  turn-on-way trip n o l z (k, w) =
+      let at : Places = tripPlaces trip n in
+      let here : s ≡ at .site → p ≡ at .slot → Stays trip (passageAt (o .tables) n) =
+      λ a b. subst (λ (x : ℕ). Stays trip (passageAt (o .tables) x)) b (w a) in
+      rw (turn-stored trip n o) (
+        stored-has Stands (o .tables) at _ z (placed-trip trip n l) s p slot
+            (λ a b. turned-stands trip n (seenOf (o .tables) at) (here a b) (subst₂ (λ (x y : ℕ). Stands (visitAt (o .tables) x y)) a b k))
+            k,
+        λ a. passage-has (Stays trip) (o .tables) at _ z (placed-trip trip n l) p (λ b. turned-stays trip n (seenOf (o .tables) at) (here a b)) (w a),
+      )
+
+  -- in any tables: the promise to a passage in use stands after every step that does not let the station off
+  pub promise-stands :
+      (t : Tables) (step : Step) → Sized t → Promised t s p → isFree (passageAt t p .status) ≡ false → letsOff t s p step ≡ false
+      → Promised (stepOf t step .tables) s p
+  promise-stands t step z k u f =
+      sized-step-has
+      t
+      step
+      z
+      (λ n x. OnWay (lookOf step .trip) x)
+      (turn-on-way (lookOf step .trip))
+      (λ a. (head-stands t step z k u f, head-away t step z f))
+      (λ x. Promised x s p)
+      k
+      (λ x y. record { there = y .0 .0; prepared = y .0 .1 })
+
+-- ---- runs
+
+-- what stands of a promise from one moment to another: the visit with its mark, and every object that the passage holds at the site
+pub record StandsFrom (t u : Tables) (site slot : ℕ) : Type 0 where
+  pub promised : Promised u site slot
+  pub objects : (k : ℕ) → objectSite k ≡ site → objectAt t k .holder ≡ Holder.Slot slot → objectAt u k .holder ≡ Holder.Slot slot
+
+module _ (s p : ℕ) (slot : p < 16) where
+  -- in a run the slot of a visit is in use
+  in-use : (ss : List Step) → visitAt (runOf start ss) s p .there ≡ true → isFree (passageAt (runOf start ss) p .status) ≡ false
+  in-use ss there =
+      ⊎-elim
+      (λ e. absurd (true≢false (sym there ∙ free-no-visit ss p slot (free-says (passageAt (runOf start ss) p .status) e) s)))
+      (λ e. e)
+      (either (isFree (passageAt (runOf start ss) p .status)))
+
+  one-step :
+      (ss : List Step) (x : Step) → Promised (runOf start ss) s p → (isAccepted (stepOf (runOf start ss) x .answer) && letsOff (runOf start ss) s p x) ≡ false
+      → StandsFrom (runOf start ss) (stepOf (runOf start ss) x .tables) s p
+  one-step ss x k f =
+      record {
+        promised = next;
+        objects =
+            λ j y held.
+            ⊎-elim
+            (λ e. e)
+            (λ gone. absurd (true≢false (sym (next .there) ∙ subst (λ (a : ℕ). visitAt (stepOf (runOf start ss) x .tables) a p .there ≡ false) y gone)))
+            (let-go-with-visit j p slot (runOf start ss) x (sized-run ss) held);
+      }
+    where
+      next : Promised (stepOf (runOf start ss) x .tables) s p
+      next =
+          ⊎-elim
+          (λ e. promise-stands s p slot (runOf start ss) x (sized-run ss) k (in-use ss (k .there)) (rw e at f))
+          (λ e. rw (refused-leaves (runOf start ss) x e) k)
+          (either (isAccepted (stepOf (runOf start ss) x .answer)))
+
+  run-stands :
+      (ss after : List Step) → Promised (runOf start ss) s p → letOffIn (runOf start ss) s p after ≡ false
+      → StandsFrom (runOf start ss) (runOf (runOf start ss) after) s p
+  unfolding runOf letOffIn
+  run-stands ss [] k f = record { promised = k; objects = λ j y held. held }
+  run-stands ss (x ∷ xs) k f =
+      let now : Bool = isAccepted (stepOf (runOf start ss) x .answer) && letsOff (runOf start ss) s p x in
+      let e : runOf start (ss ++ (x ∷ [])) ≡ stepOf (runOf start ss) x .tables = run-on start ss (x ∷ []) in
+      let a : StandsFrom (runOf start ss) (stepOf (runOf start ss) x .tables) s p = one-step ss x k (or-left now _ f) in
+      let b : StandsFrom (stepOf (runOf start ss) x .tables) (runOf (stepOf (runOf start ss) x .tables) xs) s p =
+      subst
+      (λ (t : Tables). Promised t s p → letOffIn t s p xs ≡ false → StandsFrom t (runOf t xs) s p)
+      e
+      (run-stands (ss ++ (x ∷ [])) xs)
+      (a .promised)
+      (or-right now _ f) in
+      record { promised = b .promised; objects = λ j y held. b .objects j y (a .objects j y held) }
+
+-- A promise stands until home lets the station off: in every run, as long as no accepted step does,
+-- the visit is there and prepared, and every object that the passage held at the site is held by it
+pub promise-stands-until-let-off :
+    (before after : List Step) (s p : ℕ) → p < 16 → Promised (runOf start before) s p
+    → letOffIn (runOf start before) s p after ≡ false
+    → StandsFrom (runOf start before) (runOf start (before ++ after)) s p
+promise-stands-until-let-off before after s p slot k f =
+    rw (run-on start before after) (run-stands s p slot before after k f)

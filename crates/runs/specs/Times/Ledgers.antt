@@ -1,0 +1,213 @@
+-- The ledgers along a run, and the invariant of every slot in every run. Assumes nothing.
+use Prim.Native.Nat.{ℕ, _<_}
+use native.Mathlib.Omega.{arith}
+use mathlib.Core.Path.{_≡_, refl, ap}
+use mathlib.Core.Bool.{true, false, not, _||_}
+use mathlib.Core.List.{List}
+use lib.ListN.{getD-replicate}
+use Rattle.rules.specs.Tables.{start, passageAt, visitPlace, pastPassage, pastVisit, pastMessage, noVisit, noMessage, freeSlot}
+use Rattle.rules.specs.Answers.{isAccepted}
+use Rattle.rules.specs.AnswersLaws.{accepted-fine}
+use Rattle.rules.specs.Ranges.{inRange}
+use Rattle.rules.specs.RangesLaws.{placed-places, placed-trip, seen-in-range, stored-in-range}
+use Rattle.rules.specs.RangesKept.{decided-in-range, turned-in-range, start-in-range}
+use Rattle.rules.specs.StoredLaws.{Sized, turn-stored, sized-after-stored}
+use Rattle.rules.specs.Checks.{badHandle, badTimes}
+use Rattle.rules.specs.Parts.{isActive, isAborted, isRunning}
+use Rattle.rules.specs.Stations.{tickOf, tickDone, sweepOf, sweepDone, crashOf, crashDone, recoverOf, recoverDone}
+use Rattle.rules.specs.Passages.{beginOf, beginDone, abortOf, abortDone, retireOf, retireDone}
+use Rattle.rules.specs.Rounds.{refreshOf, terminateOf, prepareOf, openOf, openDone, askOf, askDone, closeOf, closeDone, tellOf, tellDone}
+use Rattle.rules.specs.Calls.{invokeOf, invokeDone, dropOf, dropDone}
+use Rattle.rules.specs.Machine.{lookOf, placesOf, seenOf, remains, decideOf, headOf, tripPlaces, turnSeen, turnOf, foundOf}
+use Rattle.rules.specs.Runs.{runOf}
+use Rattle.runs.specs.Types.{Kind, Passage, Body, Tables, Step, Places, Seen, Outcome}
+use Rattle.rules.specs.declared.looking.Trip.{Trip}
+use Rattle.runs.specs.Walk.Plain.{repeat-has}
+use Rattle.runs.specs.Times.View.{Ledger, mailOf, viewOf, noLedger}
+use Rattle.runs.specs.Times.Clauses.{Holds}
+use Rattle.runs.specs.Kept.Life.{free-kept}
+use Rattle.runs.specs.Times.Store.{nextLedgers, Fitting, settled-fits, fitting-kept}
+use Rattle.runs.specs.Fits.Stations.{site-fits, same-fits, lost-fits, swept-fits, crashed-fits}
+use Rattle.runs.specs.Fits.Life.{begin-fits, abort-fits, retire-fits}
+use Rattle.runs.specs.Fits.Open.{refresh-fits, terminate-fits, prepare-fits}
+use Rattle.runs.specs.Fits.Mail.{ask-fits, tell-fits}
+use Rattle.runs.specs.Fits.Close.{close-fits}
+use Rattle.runs.specs.Fits.Invoke.{invoke-fits}
+use Rattle.runs.specs.Fits.Deliver.{deliver-fits}
+use Rattle.runs.specs.Walk.Steps.{ghostRun, run-keeps}
+
+-- ---- the ledgers after a run
+
+-- where a step looks, and what it sees there
+abbrev pub placesAt : Tables → Step → Places
+placesAt t step = placesOf t (lookOf step)
+
+abbrev pub seenAt : Tables → Step → Seen
+seenAt t step = seenOf t (placesAt t step)
+
+abbrev pub headLedgers : Tables → Step → (ℕ → Ledger) → ℕ → Ledger
+headLedgers t step ls =
+    nextLedgers
+    ls
+    (placesAt t step)
+    (seenAt t step)
+    (decideOf step (foundOf t (placesAt t step)) (seenAt t step) .left)
+
+abbrev pub turnLedgers : Trip → ℕ → Tables → (ℕ → Ledger) → ℕ → Ledger
+turnLedgers trip slot t ls =
+    nextLedgers
+    ls
+    (tripPlaces trip slot)
+    (seenOf t (tripPlaces trip slot))
+    (turnSeen trip slot (seenOf t (tripPlaces trip slot)))
+
+-- from the start, where no slot has a ledger
+unfoldable pub ledgersOf : List Step → ℕ → Ledger
+ledgersOf ss = ghostRun headLedgers turnLedgers start ss (λ p. noLedger)
+
+-- ---- the invariant
+
+pub record Kept (t : Tables) (ls : ℕ → Ledger) : Type 0 where
+  pub range : inRange t ≡ true
+  pub sized : Sized t
+  pub slots : (p : ℕ) → p < 16 → Holds (viewOf t p) (ls p)
+
+-- ---- every accepted step's own store fits
+
+-- a message is dropped by the slot that its handle names
+dropped-fits : (t : Tables) (m : ℕ) → Fitting t (placesOf t (lookOf (Step.Drop m))) (dropDone m (seenOf t (placesOf t (lookOf (Step.Drop m)))) .left)
+unfolding placesOf
+dropped-fits t m = lost-fits t (placesOf t (lookOf (Step.Drop m))) refl
+
+module _ (t : Tables) (range : inRange t ≡ true) where
+  decided-fits :
+      (step : Step)
+      → isAccepted
+      (decideOf step (foundOf t (placesAt t step)) (seenAt t step) .answer)
+      ≡ true
+      → Fitting
+      t
+      (placesAt t step)
+      (decideOf step (foundOf t (placesAt t step)) (seenAt t step) .left)
+  unfolding decideOf tickOf sweepOf crashOf recoverOf beginOf abortOf retireOf refreshOf terminateOf prepareOf openOf askOf closeOf tellOf invokeOf dropOf
+  decided-fits (Step.Tick site n) e =
+      settled-fits t (placesAt t (Step.Tick site n)) (tickDone site n (seenAt t (Step.Tick site n))) e (site-fits t (placesAt t (Step.Tick site n)) _ (omega arith))
+  decided-fits (Step.Begin home slot q r) e =
+      settled-fits t (placesAt t (Step.Begin home slot q r)) (beginDone home slot q r (seenAt t (Step.Begin home slot q r))) e (begin-fits t home slot q r (accepted-fine _ _ e))
+  decided-fits (Step.Invoke h site write object value) e =
+      settled-fits t (placesAt t (Step.Invoke h site write object value)) (invokeDone h site write object value (placesAt t (Step.Invoke h site write object value) .message) (seenAt t (Step.Invoke h site write object value))) e (invoke-fits t h site write object value (placesAt t (Step.Invoke h site write object value) .message) range (accepted-fine _ _ e))
+  decided-fits (Step.Refresh h q r) e =
+      settled-fits t (placesAt t (Step.Refresh h q r)) (openDone h (Kind.Refresh q r) (badHandle h || badTimes q r) (not (isActive ((seenAt t (Step.Refresh h q r)) .passage .status))) (seenAt t (Step.Refresh h q r))) e (refresh-fits t h q r (accepted-fine _ _ e))
+  decided-fits (Step.Terminate h) e =
+      settled-fits t (placesAt t (Step.Terminate h)) (openDone h Kind.Terminate (badHandle h) (not (isAborted ((seenAt t (Step.Terminate h)) .passage .status))) (seenAt t (Step.Terminate h))) e (terminate-fits t h (accepted-fine _ _ e))
+  decided-fits (Step.Prepare h) e =
+      settled-fits t (placesAt t (Step.Prepare h)) (openDone h Kind.Prepare (badHandle h) (not (isRunning ((seenAt t (Step.Prepare h)) .passage .status))) (seenAt t (Step.Prepare h))) e (prepare-fits t h (accepted-fine _ _ e))
+  decided-fits (Step.Ask h site) e =
+      settled-fits t (placesAt t (Step.Ask h site)) (askDone h site (placesAt t (Step.Ask h site) .message) (seenAt t (Step.Ask h site))) e (ask-fits t h site (placesAt t (Step.Ask h site) .message) (accepted-fine _ _ e))
+  decided-fits (Step.Close h) e =
+      settled-fits t (placesAt t (Step.Close h)) (closeDone h (seenAt t (Step.Close h))) e (close-fits t h range (accepted-fine _ _ e))
+  decided-fits (Step.Tell h site) e =
+      settled-fits t (placesAt t (Step.Tell h site)) (tellDone h site (placesAt t (Step.Tell h site) .message) (seenAt t (Step.Tell h site))) e (tell-fits t h site (placesAt t (Step.Tell h site) .message) range (accepted-fine _ _ e))
+  decided-fits (Step.Abort h) e =
+      settled-fits t (placesAt t (Step.Abort h)) (abortDone h (seenAt t (Step.Abort h))) e (abort-fits t h)
+  decided-fits (Step.Deliver m) e = deliver-fits t m range e
+  decided-fits (Step.Drop m) e =
+      settled-fits t (placesAt t (Step.Drop m)) (dropDone m (seenAt t (Step.Drop m))) e (dropped-fits t m)
+  decided-fits (Step.Sweep site) e =
+      settled-fits t (placesAt t (Step.Sweep site)) (sweepDone site (seenAt t (Step.Sweep site))) e (site-fits t (placesAt t (Step.Sweep site)) _ (omega arith))
+  decided-fits (Step.Crash site) e =
+      settled-fits t (placesAt t (Step.Crash site)) (crashDone site (seenAt t (Step.Crash site))) e (site-fits t (placesAt t (Step.Crash site)) _ (omega arith))
+  decided-fits (Step.Recover site) e =
+      settled-fits t (placesAt t (Step.Recover site)) (recoverDone site (seenAt t (Step.Recover site))) e (site-fits t (placesAt t (Step.Recover site)) _ (omega arith))
+  decided-fits (Step.Retire h) e =
+      settled-fits t (placesAt t (Step.Retire h)) (retireDone h (remains t (placesAt t (Step.Retire h) .slot)) (seenAt t (Step.Retire h))) e (retire-fits t h (accepted-fine _ _ e))
+
+-- ---- so the invariant is kept
+
+head-kept :
+    (t : Tables) (step : Step) (ls : ℕ → Ledger) → Kept t ls → isAccepted (headOf t step .answer) ≡ true
+    → Kept (headOf t step .tables) (headLedgers t step ls)
+unfolding headOf
+head-kept t step ls k e =
+    record {
+      range =
+          stored-in-range
+          t
+          (placesAt t step)
+          _
+          (k .range)
+          (decided-in-range
+          step
+          _
+          _
+          (seen-in-range t (placesAt t step) (k .range) (placed-places t (lookOf step))));
+      sized = sized-after-stored t (placesAt t step) _ (k .sized);
+      slots =
+          fitting-kept
+          t
+          (placesAt t step)
+          _
+          (k .sized)
+          (placed-places t (lookOf step))
+          (decided-fits t (k .range) step e)
+          ls
+          (k .slots);
+    }
+
+turned-fits :
+    (t : Tables) (trip : Trip) (slot : ℕ)
+    → Fitting t (tripPlaces trip slot) (turnSeen trip slot (seenOf t (tripPlaces trip slot)))
+turned-fits t Trip.Nowhere slot = same-fits t (tripPlaces Trip.Nowhere slot)
+turned-fits t (Trip.Sweep site) slot = swept-fits t site slot
+turned-fits t (Trip.Crash site) slot = crashed-fits t site slot
+
+turn-kept :
+    (trip : Trip) (slot : ℕ) (o : Outcome) (ls : ℕ → Ledger) → slot < 16 → Kept (o .tables) ls
+    → Kept (turnOf trip slot o .tables) (turnLedgers trip slot (o .tables) ls)
+turn-kept trip slot o ls i k =
+    rw
+    (turn-stored trip slot o)
+    (record {
+      range =
+          stored-in-range
+          (o .tables)
+          (tripPlaces trip slot)
+          _
+          (k .range)
+          (turned-in-range trip slot _ (seen-in-range (o .tables) (tripPlaces trip slot) (k .range) (placed-trip trip slot i)));
+      sized = sized-after-stored (o .tables) (tripPlaces trip slot) _ (k .sized);
+      slots =
+          fitting-kept
+          (o .tables)
+          (tripPlaces trip slot)
+          _
+          (k .sized)
+          (placed-trip trip slot i)
+          (turned-fits (o .tables) trip slot)
+          ls
+          (k .slots);
+    })
+
+-- ---- and holds at the start
+
+start-kept : Kept start (λ p. noLedger)
+unfolding start
+start-kept =
+    record {
+      range = start-in-range;
+      sized = record { sites = refl; objects = refl; passages = refl; visits = refl; messages = refl };
+      slots =
+          λ p i.
+          let e : passageAt start p ≡ freeSlot 0 = getD-replicate 16 p (freeSlot 0) pastPassage i in
+          free-kept
+          (viewOf start p)
+          (rw (ap (λ (x : Passage). x .home) e) (omega arith))
+          (ap (λ (x : Passage). x .round) e)
+          (λ s. repeat-has (λ v. v .there ≡ false) 128 noVisit pastVisit refl refl (visitPlace s p))
+          (λ k. repeat-has (λ m. mailOf p m .body ≡ Body.Empty) 32 noMessage pastMessage refl refl k);
+    }
+
+-- ---- so it holds in every run
+pub kept-run : (ss : List Step) → Kept (runOf start ss) (ledgersOf ss)
+unfolding ledgersOf
+kept-run ss = run-keeps headLedgers turnLedgers Kept head-kept turn-kept start ss (λ p. noLedger) start-kept
