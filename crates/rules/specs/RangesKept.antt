@@ -27,7 +27,7 @@ use Rattle.rules.specs.FineLaws.{invoke-count, call-count, open-count}
 use Rattle.rules.specs.Machine.{lookOf, placesOf, seenOf, remains, decideOf, stored, headOf, turnSeen, turnOf, turnsUpTo, turnCount, stepInRangeOf, stepOf, foundOf}
 use Rattle.rules.specs.StoredLaws.{Placed, turn-stored}
 use Rattle.rules.specs.Record.{stepOfRecord, readingOf, recordInRangeOf, stepRecordOf}
-use Rattle.rules.specs.Runs.{runOf, runRecordsOf}
+use Rattle.rules.specs.Runs.{Started, runOf, runRecordsOf}
 use Rattle.rules.specs.RangesLaws.{set-keeps-at, both, neither, SeenInRange, seen-in-range, stored-in-range, placed-places, placed-trip}
 use Rattle.rules.specs.RangesFits.{Counts, RoundFits, PassageFits, VisitFits, CallFits, call-says, call-makes, MessageFits, ObjectFits, ObjectsFit, SeenFits, seen-says, seen-makes, times-fit, no-counts-fit, eight-figures-fit, no-round-fits, new-visit-fits, no-visit-fits, no-message-fits, answer-message-fits, let-go-fits, taken-fits, operated-fits, each-fits, told-objects-fit, quieted-fits, asked-visit-fits, told-visit-fits, asked-in-range, round-told-in-range, phase-two-fits, with-answer-fits, aborted-fits}
 
@@ -317,9 +317,12 @@ in-range-after-records t [] e = e
 in-range-after-records t (r ∷ rs) e =
     in-range-after-records (stepRecordOf t r .tables) rs (rw e (in-range-after-record t r e))
 
--- number 20 is never met from the start
-pub in-range-run : (ss : List Step) → inRange (runOf start ss) ≡ true
-in-range-run ss = in-range-after-steps start ss start-in-range
+pub in-range-started : {t : Tables} → Started t → inRange t ≡ true
+in-range-started fresh = rw (fresh .empty) start-in-range
 
-pub in-range-run-records : (rs : List (List ℕ)) → inRange (runRecordsOf start rs) ≡ true
-in-range-run-records rs = in-range-after-records start rs start-in-range
+-- number 20 is never met in a run from the start
+pub in-range-run : {t : Tables} → Started t → (ss : List Step) → inRange (runOf t ss) ≡ true
+in-range-run {t} fresh ss = in-range-after-steps t ss (in-range-started fresh)
+
+pub in-range-run-records : {t : Tables} → Started t → (rs : List (List ℕ)) → inRange (runRecordsOf t rs) ≡ true
+in-range-run-records {t} fresh rs = in-range-after-records t rs (in-range-started fresh)

@@ -1,12 +1,22 @@
 -- Runs: the tables after a list of steps or records, their answers, and the list of accepted steps. Assumes nothing.
 use Prim.Native.Nat.{ℕ}
+use mathlib.Core.Path.{_≡_, refl}
 use mathlib.Core.Bool.{Bool, true, false, cond}
 use mathlib.Core.List.{List, [], _∷_, _++_}
 use Rattle.rules.specs.Types.{Tables, Step, Answer, Places}
-use Rattle.rules.specs.Tables.{siteAt}
+use Rattle.rules.specs.Tables.{start, siteAt}
 use Rattle.rules.specs.Answers.{isAccepted}
 use Rattle.rules.specs.Machine.{lookOf, placesOf, stepOf}
 use Rattle.rules.specs.Record.{stepRecordOf}
+
+-- ---- where a run begins
+
+-- tables that a run begins with: the start, and no others
+pub record Started (t : Tables) : Type 0 where
+  pub empty : t ≡ start
+
+pub start-started : Started start
+start-started = record { empty = refl }
 
 -- ---- the tables that a run leaves
 

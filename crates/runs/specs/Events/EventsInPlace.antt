@@ -6,11 +6,11 @@ use mathlib.Core.Logic.{⊎-elim}
 use mathlib.Core.Bool.{Bool, true, cond}
 use mathlib.Core.List.{List, [], _∷_, _++_}
 use Rattle.rules.specs.LoopsLaws.{either, cond-keeps}
-use Rattle.rules.specs.Tables.{start, objectSite}
+use Rattle.rules.specs.Tables.{objectSite}
 use Rattle.rules.specs.Answers.{isAccepted, answerValue}
 use Rattle.rules.specs.RangesLaws.{placed-places}
 use Rattle.rules.specs.Machine.{lookOf, placesOf, headOf, stepOf}
-use Rattle.rules.specs.Runs.{actsAtSite, runOf}
+use Rattle.rules.specs.Runs.{Started, actsAtSite, runOf}
 use Rattle.rules.specs.Events.{EventKind, Event, eventIn, isHolding, tookOf, bodyEvents, isFreed, joinUpTo, freedBy, freedOf, eventsOf}
 use Rattle.runs.specs.Types.{Call, Body, Tables, Step}
 use Rattle.runs.specs.Walk.Steps.{head-accepted}
@@ -103,5 +103,5 @@ events-in-place-from t step held =
     (either (isAccepted (stepOf t step .answer)))
 
 -- in every run each event is of a slot and an object that there are, at the site where the object stands, at that site's clock
-pub events-in-place : (ss : List Step) (step : Step) → AllInPlace (runOf start ss) step (eventsOf (runOf start ss) step)
-events-in-place ss step = events-in-place-from (runOf start ss) step (held-run ss)
+pub events-in-place : {t₀ : Tables} → Started t₀ → (ss : List Step) (step : Step) → AllInPlace (runOf t₀ ss) step (eventsOf (runOf t₀ ss) step)
+events-in-place {t₀} fresh ss step = events-in-place-from (runOf t₀ ss) step (held-run fresh ss)

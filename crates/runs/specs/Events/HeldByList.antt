@@ -18,14 +18,14 @@ use Rattle.rules.specs.AnswersLaws.{accepted-fine}
 use Rattle.rules.specs.Parts.{isHeldBy, isOver}
 use Rattle.rules.specs.Passages.{retireOf}
 use Rattle.rules.specs.Machine.{placesOf, remains, decideOf, headOf, stepOf}
-use Rattle.rules.specs.Runs.{actsAtSite, runOf}
+use Rattle.rules.specs.Runs.{Started, actsAtSite, runOf}
 use Rattle.rules.specs.Views.{Generation, deedOf}
 use Rattle.rules.specs.Events.{Event, isHolding, eventsOf}
 use Rattle.runs.specs.Types.{Tables, Step}
 use Rattle.runs.specs.Walk.Plain.{repeat-has}
 use Rattle.runs.specs.Walk.Steps.{head-accepted}
 use Rattle.runs.specs.Holders.HeldStore.{Held}
-use Rattle.runs.specs.Holders.Holders.{held-start, held-step}
+use Rattle.runs.specs.Holders.Holders.{held-started, held-step}
 use Rattle.runs.specs.Orphans.Orphans.{retires}
 use Rattle.runs.specs.Events.Uses.{usesAfter, usesFrom, useOf, PassageEvent, withUses, eventsFrom, eventsUpTo, isOf, holdAfter, heldSince, heldIn}
 use Rattle.runs.specs.Events.HoldSteps.{and-true, and-false}
@@ -157,38 +157,41 @@ start-holding : (p k : ℕ) → isHolding start p k ≡ false
 unfolding start
 start-holding p k = repeat-has (λ (o : Object). isHeldBy p (o .holder) ≡ false) 32 noObject pastObject refl refl k
 
+started-holding : {t₀ : Tables} → Started t₀ → (p k : ℕ) → isHolding t₀ p k ≡ false
+started-holding fresh p k = rw (fresh .empty) (start-holding p k)
+
 -- by the list, use u of slot p holds object k exactly if in the tables the slot holds it and u is its present use
 pub held-by-list :
-    (ss : List Step) (p u k : ℕ) → p < 16 → k < 32
-    → heldIn (eventsUpTo ss) p u k ≡ (isHolding (runOf start ss) p k && eqb (useOf ss p) u)
+    {t₀ : Tables} → Started t₀ → (ss : List Step) (p u k : ℕ) → p < 16 → k < 32
+    → heldIn (eventsUpTo t₀ ss) p u k ≡ (isHolding (runOf t₀ ss) p k && eqb (useOf t₀ ss p) u)
 unfolding eventsUpTo useOf
-held-by-list ss p u k slot l =
-    rw (start-holding p k) at (held-by-list-from start (λ q. 0) ss p u k held-start slot l)
+held-by-list {t₀} fresh ss p u k slot l =
+    rw (started-holding fresh p k) at (held-by-list-from t₀ (λ q. 0) ss p u k (held-started fresh) slot l)
 
 -- the law: an object is held by a passage in the tables exactly if by the list that passage has taken it and not freed it since
 pub held-is-listed :
-    (ss : List Step) (p k : ℕ) → p < 16 → k < 32
-    → isHolding (runOf start ss) p k ≡ heldIn (eventsUpTo ss) p (useOf ss p) k
-held-is-listed ss p k slot l =
-    sym (held-by-list ss p (useOf ss p) k slot l ∙ (rw (eq-eqb (useOf ss p) (useOf ss p) refl, and-true)))
+    {t₀ : Tables} → Started t₀ → (ss : List Step) (p k : ℕ) → p < 16 → k < 32
+    → isHolding (runOf t₀ ss) p k ≡ heldIn (eventsUpTo t₀ ss) p (useOf t₀ ss p) k
+held-is-listed {t₀} fresh ss p k slot l =
+    sym (held-by-list fresh ss p (useOf t₀ ss p) k slot l ∙ (rw (eq-eqb (useOf t₀ ss p) (useOf t₀ ss p) refl, and-true)))
 
 -- by the list only the present use of a slot holds anything
 pub listed-in-present-use :
-    (ss : List Step) (p u k : ℕ) → p < 16 → k < 32 → heldIn (eventsUpTo ss) p u k ≡ true → u ≡ useOf ss p
-listed-in-present-use ss p u k slot l e =
-    sym (eqb-true (useOf ss p) u (and-right (isHolding (runOf start ss) p k) _ (sym (held-by-list ss p u k slot l) ∙ e)))
+    {t₀ : Tables} → Started t₀ → (ss : List Step) (p u k : ℕ) → p < 16 → k < 32 → heldIn (eventsUpTo t₀ ss) p u k ≡ true → u ≡ useOf t₀ ss p
+listed-in-present-use {t₀} fresh ss p u k slot l e =
+    sym (eqb-true (useOf t₀ ss p) u (and-right (isHolding (runOf t₀ ss) p k) _ (sym (held-by-list fresh ss p u k slot l) ∙ e)))
 
 -- by the list at most one passage holds an object
 pub listed-by-one :
-    (ss : List Step) (p u q v k : ℕ) → p < 16 → q < 16 → k < 32 → heldIn (eventsUpTo ss) p u k ≡ true → heldIn (eventsUpTo ss) q v k ≡ true
+    {t₀ : Tables} → Started t₀ → (ss : List Step) (p u q v k : ℕ) → p < 16 → q < 16 → k < 32 → heldIn (eventsUpTo t₀ ss) p u k ≡ true → heldIn (eventsUpTo t₀ ss) q v k ≡ true
     → (p ≡ q) × (u ≡ v)
-listed-by-one ss p u q v k lp lq l e f =
-    let same : p ≡ q = one-holder p q (objectAt (runOf start ss) k .holder) (slot-holds p u lp e) (slot-holds q v lq f) in
-    (same, listed-in-present-use ss p u k lp l e ∙ ap (useOf ss) same ∙ sym (listed-in-present-use ss q v k lq l f))
+listed-by-one {t₀} fresh ss p u q v k lp lq l e f =
+    let same : p ≡ q = one-holder p q (objectAt (runOf t₀ ss) k .holder) (slot-holds p u lp e) (slot-holds q v lq f) in
+    (same, listed-in-present-use fresh ss p u k lp l e ∙ ap (useOf t₀ ss) same ∙ sym (listed-in-present-use fresh ss q v k lq l f))
   where
     one-holder : (a b : ℕ) (x : Holder) → isHeldBy a x ≡ true → isHeldBy b x ≡ true → a ≡ b
     one-holder a b Holder.Nobody g h = absurd (false≢true g)
     one-holder a b (Holder.Slot c) g h = sym (eqb-true c a g) ∙ eqb-true c b h
 
-    slot-holds : (a w : ℕ) → a < 16 → heldIn (eventsUpTo ss) a w k ≡ true → isHolding (runOf start ss) a k ≡ true
-    slot-holds a w i g = and-left _ (eqb (useOf ss a) w) (sym (held-by-list ss a w k i l) ∙ g)
+    slot-holds : (a w : ℕ) → a < 16 → heldIn (eventsUpTo t₀ ss) a w k ≡ true → isHolding (runOf t₀ ss) a k ≡ true
+    slot-holds a w i g = and-left _ (eqb (useOf t₀ ss a) w) (sym (held-by-list fresh ss a w k i l) ∙ g)

@@ -5,7 +5,7 @@ use mathlib.Core.Bool.{Bool, true, false, cond, _&&_, _||_}
 use mathlib.Core.List.{List, [], _∷_, _++_}
 use lib.Dec.{eqb}
 use Rattle.rules.specs.Loops.{oneIf}
-use Rattle.rules.specs.Tables.{start, siteAt, objectSite}
+use Rattle.rules.specs.Tables.{siteAt, objectSite}
 use Rattle.rules.specs.Answers.{isAccepted}
 use Rattle.rules.specs.Machine.{stepOf}
 use Rattle.rules.specs.Events.{EventKind, Event, eventsOf}
@@ -33,9 +33,9 @@ unfoldable pub usesFrom : Tables → (ℕ → ℕ) → List Step → ℕ → ℕ
 usesFrom t uses [] p = uses p
 usesFrom t uses (s ∷ ss) p = usesFrom (stepOf t s .tables) (usesAfter t s uses) ss p
 
--- from the start, where no slot has been retired
-unfoldable pub useOf : List Step → ℕ → ℕ
-useOf ss p = usesFrom start (λ q. 0) ss p
+-- where a run begins no slot has been retired
+unfoldable pub useOf : Tables → List Step → ℕ → ℕ
+useOf t₀ ss p = usesFrom t₀ (λ q. 0) ss p
 
 -- ---- the events of a run. A passage is a slot and a use
 
@@ -51,8 +51,8 @@ unfoldable pub eventsFrom : Tables → (ℕ → ℕ) → List Step → List Pass
 eventsFrom t uses [] = []
 eventsFrom t uses (s ∷ ss) = withUses uses (eventsOf t s) ++ eventsFrom (stepOf t s .tables) (usesAfter t s uses) ss
 
-unfoldable pub eventsUpTo : List Step → List PassageEvent
-eventsUpTo ss = eventsFrom start (λ q. 0) ss
+unfoldable pub eventsUpTo : Tables → List Step → List PassageEvent
+eventsUpTo t₀ ss = eventsFrom t₀ (λ q. 0) ss
 
 -- ---- who holds an object by the list
 

@@ -13,7 +13,7 @@ use Rattle.rules.specs.LoopsLaws.{either, and-left, and-right, or-left, or-righ
 use Rattle.rules.specs.Tables.{start, freeSlot, pastPassage}
 use Rattle.rules.specs.Answers.{isAccepted}
 use Rattle.rules.specs.Machine.{stepOf}
-use Rattle.rules.specs.Runs.{runOf, historyOf}
+use Rattle.rules.specs.Runs.{Started, runOf, historyOf}
 use Rattle.rules.specs.Events.{EventKind, isHolding}
 use Rattle.runs.specs.Types.{Passage, Tables, Step}
 use Rattle.runs.specs.Walk.Plain.{repeat-has}
@@ -88,19 +88,19 @@ module _ (p u k : ℕ) where
 
 -- an object that a passage holds has been taken, in the present use of its slot, and not freed since
 pub held-was-taken :
-    (ss : List Step) (p k : ℕ) → p < 16 → k < 32 → isHolding (runOf start ss) p k ≡ true
-    → TakenAndNotFreed (eventsUpTo ss) p (useOf ss p) k
-held-was-taken ss p k slot l e =
-    listed-is-taken p (useOf ss p) k (eventsUpTo ss) (sym (held-is-listed ss p k slot l) ∙ e)
+    {t₀ : Tables} → Started t₀ → (ss : List Step) (p k : ℕ) → p < 16 → k < 32 → isHolding (runOf t₀ ss) p k ≡ true
+    → TakenAndNotFreed (eventsUpTo t₀ ss) p (useOf t₀ ss p) k
+held-was-taken {t₀} fresh ss p k slot l e =
+    listed-is-taken p (useOf t₀ ss p) k (eventsUpTo t₀ ss) (sym (held-is-listed fresh ss p k slot l) ∙ e)
 
 -- and what has been taken and not freed since is held, and its use is the present one
 pub taken-is-held :
-    (ss : List Step) (p u k : ℕ) → p < 16 → k < 32 → TakenAndNotFreed (eventsUpTo ss) p u k
-    → (isHolding (runOf start ss) p k ≡ true) × (useOf ss p ≡ u)
-taken-is-held ss p u k slot l x =
-    let e : (isHolding (runOf start ss) p k && eqb (useOf ss p) u) ≡ true =
-    sym (held-by-list ss p u k slot l) ∙ taken-is-listed p u k (eventsUpTo ss) x in
-    (and-left _ (eqb (useOf ss p) u) e, eqb-true (useOf ss p) u (and-right (isHolding (runOf start ss) p k) _ e))
+    {t₀ : Tables} → Started t₀ → (ss : List Step) (p u k : ℕ) → p < 16 → k < 32 → TakenAndNotFreed (eventsUpTo t₀ ss) p u k
+    → (isHolding (runOf t₀ ss) p k ≡ true) × (useOf t₀ ss p ≡ u)
+taken-is-held {t₀} fresh ss p u k slot l x =
+    let e : (isHolding (runOf t₀ ss) p k && eqb (useOf t₀ ss p) u) ≡ true =
+    sym (held-by-list fresh ss p u k slot l) ∙ taken-is-listed p u k (eventsUpTo t₀ ss) x in
+    (and-left _ (eqb (useOf t₀ ss p) u) e, eqb-true (useOf t₀ ss p) u (and-right (isHolding (runOf t₀ ss) p k) _ e))
 
 -- ---- the use of a slot
 
@@ -113,21 +113,21 @@ uses-on t uses (x ∷ xs) s p = uses-on (stepOf t x .tables) (usesAfter t x uses
 
 -- after an accepted retire of a slot its use is one higher, and it holds nothing
 pub use-after-retire :
-    (ss : List Step) (step : Step) (p : ℕ) → p < 16 → (isAccepted (stepOf (runOf start ss) step .answer) && retires p step) ≡ true
-    → (useOf (ss ++ step ∷ []) p ≡ useOf ss p + 1)
-    × ((k : ℕ) → k < 32 → isHolding (runOf start (ss ++ step ∷ [])) p k ≡ false)
+    {t₀ : Tables} → Started t₀ → (ss : List Step) (step : Step) (p : ℕ) → p < 16 → (isAccepted (stepOf (runOf t₀ ss) step .answer) && retires p step) ≡ true
+    → (useOf t₀ (ss ++ step ∷ []) p ≡ useOf t₀ ss p + 1)
+    × ((k : ℕ) → k < 32 → isHolding (runOf t₀ (ss ++ step ∷ [])) p k ≡ false)
 unfolding useOf runOf
-use-after-retire ss step p slot r = (
-  uses-on start (λ q. 0) ss step p ∙ (rw r),
-  λ k l. rw (run-on start ss (step ∷ [])) (retired-holds-nothing (runOf start ss) step p k (held-run ss) slot l r .1),
+use-after-retire {t₀} fresh ss step p slot r = (
+  uses-on t₀ (λ q. 0) ss step p ∙ (rw r),
+  λ k l. rw (run-on t₀ ss (step ∷ [])) (retired-holds-nothing (runOf t₀ ss) step p k (held-run fresh ss) slot l r .1),
 )
 
 -- no other step moves it
 pub use-after-other :
-    (ss : List Step) (step : Step) (p : ℕ) → (isAccepted (stepOf (runOf start ss) step .answer) && retires p step) ≡ false
-    → useOf (ss ++ step ∷ []) p ≡ useOf ss p
+    {t₀ : Tables} → Started t₀ → (ss : List Step) (step : Step) (p : ℕ) → (isAccepted (stepOf (runOf t₀ ss) step .answer) && retires p step) ≡ false
+    → useOf t₀ (ss ++ step ∷ []) p ≡ useOf t₀ ss p
 unfolding useOf
-use-after-other ss step p r = uses-on start (λ q. 0) ss step p ∙ (rw r (add-zero _))
+use-after-other {t₀} fresh ss step p r = uses-on t₀ (λ q. 0) ss step p ∙ (rw r (add-zero _))
 
 uses-count :
     (t : Tables) (uses : ℕ → ℕ) (ss : List Step) (p : ℕ) → usesFrom t uses ss p ≡ uses p + retiresIn p (historyOf t ss)
@@ -143,17 +143,20 @@ uses-count t uses (s ∷ ss) p =
     one (inr a) = rw a (omega arith)
 
 -- the use is the number of accepted retires of the slot in the list of accepted steps
-pub use-counts-retires : (ss : List Step) (p : ℕ) → useOf ss p ≡ retiresIn p (historyOf start ss)
+pub use-counts-retires : (t₀ : Tables) (ss : List Step) (p : ℕ) → useOf t₀ ss p ≡ retiresIn p (historyOf t₀ ss)
 unfolding useOf
-use-counts-retires ss p = uses-count start (λ q. 0) ss p ∙ zero-add _
+use-counts-retires t₀ ss p = uses-count t₀ (λ q. 0) ss p ∙ zero-add _
 
 generation-start : (p : ℕ) → generationAt start p ≡ 0
 unfolding start
 generation-start = repeat-has (λ (x : Passage). x .generation ≡ 0) 16 (freeSlot 0) pastPassage refl refl
 
+generation-started : {t₀ : Tables} → Started t₀ → (p : ℕ) → generationAt t₀ p ≡ 0
+generation-started fresh p = rw (fresh .empty) (generation-start p)
+
 -- the generation byte is what it leaves over 256: the same again after 256 retires, and the use is not
-pub generation-is-use : (ss : List Step) (p : ℕ) → generationAt (runOf start ss) p ≡ useOf ss p % 256
+pub generation-is-use : {t₀ : Tables} → Started t₀ → (ss : List Step) (p : ℕ) → generationAt (runOf t₀ ss) p ≡ useOf t₀ ss p % 256
 unfolding runOf
-generation-is-use ss p =
-    generation-counts-retires [] ss p
-    ∙ (rw (generation-start p, use-counts-retires ss p) (omega arith))
+generation-is-use {t₀} fresh ss p =
+    generation-counts-retires fresh [] ss p
+    ∙ (rw (generation-started fresh p, use-counts-retires t₀ ss p) (omega arith))

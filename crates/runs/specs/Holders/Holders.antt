@@ -2,7 +2,7 @@
 -- Assumes nothing.
 use Prim.Native.Nat.{ℕ, _<_}
 use mathlib.Core.Path.{_≡_, refl}
-use mathlib.Core.Bool.{Bool, true}
+use mathlib.Core.Bool.{true}
 use mathlib.Core.List.{List}
 use Rattle.rules.specs.declared.tables.Holder.{Holder}
 use Rattle.rules.specs.declared.tables.Object.{Object}
@@ -13,10 +13,10 @@ use Rattle.rules.specs.Stations.{tickOf, sweepOf, crashOf, recoverOf}
 use Rattle.rules.specs.Machine.{lookOf, placesOf, seenOf, decideOf, headOf, tripPlaces, turnOf, stepOf}
 use Rattle.rules.specs.StoredLaws.{turn-stored}
 use Rattle.rules.specs.RangesLaws.{placed-places, placed-trip}
-use Rattle.rules.specs.Runs.{runOf}
+use Rattle.rules.specs.Runs.{Started, start-started, runOf}
 use Rattle.runs.specs.Types.{Call, Body, Message, Tables, Step, Outcome, Found}
 use Rattle.runs.specs.Walk.Plain.{repeat-has}
-use Rattle.runs.specs.Walk.Sizes.{step-holds, run-holds, sized-start}
+use Rattle.runs.specs.Walk.Sizes.{step-holds, run-holds, sized-started}
 use Rattle.runs.specs.Holders.Banks.{nobody-holds}
 use Rattle.runs.specs.Holders.HeldStore.{GoesHome, Held, Keeps, held-stored}
 use Rattle.runs.specs.Holders.HeldSteps.{no-call, station-keeps, begin-keeps, retire-keeps, drop-keeps, sent-keeps, invoke-keeps, open-keeps, abort-keeps, close-keeps, deliver-keeps, turned-keeps}
@@ -57,11 +57,11 @@ held-turn trip slot o l k =
 -- ---- the start, and every run
 
 -- nothing is held, and there is no message
-pub held-start : Held start
+held-start : Held start
 unfolding start
 held-start =
     record {
-      sized = sized-start;
+      sized = sized-started start-started;
       visits =
           λ j p l e.
           absurd
@@ -84,17 +84,20 @@ held-step t step k = step-holds Held (λ u s h e. held-head u s h) held-turn t s
 pub held-from : (t : Tables) (ss : List Step) → Held t → Held (runOf t ss)
 held-from = run-holds Held (λ u s h e. held-head u s h) held-turn
 
-pub held-run : (ss : List Step) → Held (runOf start ss)
-held-run ss = held-from start ss held-start
+pub held-started : {t₀ : Tables} → Started t₀ → Held t₀
+held-started fresh = rw (fresh .empty) held-start
+
+pub held-run : {t₀ : Tables} → Started t₀ → (ss : List Step) → Held (runOf t₀ ss)
+held-run {t₀} fresh ss = held-from t₀ ss (held-started fresh)
 
 -- who holds an object has a visit at its site
 pub held-has-visit :
-    (ss : List Step) (k p : ℕ) → k < 32 → objectAt (runOf start ss) k .holder ≡ Holder.Slot p
-    → (p < 16) × (visitAt (runOf start ss) (objectSite k) p .there ≡ true)
-held-has-visit ss = held-run ss .visits
+    {t₀ : Tables} → Started t₀ → (ss : List Step) (k p : ℕ) → k < 32 → objectAt (runOf t₀ ss) k .holder ≡ Holder.Slot p
+    → (p < 16) × (visitAt (runOf t₀ ss) (objectSite k) p .there ≡ true)
+held-has-visit {t₀} fresh ss = held-run fresh ss .visits
 
 -- a call goes to its object's site
 pub call-goes-home :
-    (ss : List Step) (m : ℕ) (c : Call) → messageAt (runOf start ss) m .body ≡ Body.Call c
-    → (messageAt (runOf start ss) m .destination ≡ objectSite (c .object)) × (c .object < 32)
-call-goes-home ss = held-run ss .calls
+    {t₀ : Tables} → Started t₀ → (ss : List Step) (m : ℕ) (c : Call) → messageAt (runOf t₀ ss) m .body ≡ Body.Call c
+    → (messageAt (runOf t₀ ss) m .destination ≡ objectSite (c .object)) × (c .object < 32)
+call-goes-home {t₀} fresh ss = held-run fresh ss .calls

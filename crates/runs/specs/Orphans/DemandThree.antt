@@ -6,16 +6,16 @@ use mathlib.Core.Logic.{_≢_, inl}
 use mathlib.Core.Bool.{Bool, true, false, cond, true≢false, false≢true}
 use mathlib.Core.List.{List, [], _∷_}
 use Rattle.rules.specs.Loops.{mostUpTo}
-use Rattle.rules.specs.Tables.{start, siteAt, objectAt, passageAt, visitAt, messageAt, objectSite}
+use Rattle.rules.specs.Tables.{siteAt, objectAt, passageAt, visitAt, messageAt, objectSite}
 use Rattle.rules.specs.Answers.{isAccepted}
 use Rattle.rules.specs.StoredLaws.{Sized}
 use Rattle.rules.specs.Machine.{headOf, isMessageOf, stepOf}
-use Rattle.rules.specs.Runs.{runOf, runRecordsOf, historyOf}
+use Rattle.rules.specs.Runs.{Started, runOf, runRecordsOf, historyOf}
 use Rattle.rules.specs.declared.tables.Holder.{Holder}
 use Rattle.runs.specs.Types.{Status, Told, Body, Message, Tables, Step}
 use Rattle.runs.specs.Times.View.{viewOf}
 use Rattle.runs.specs.Walk.Steps.{ghostRun, head-accepted, stepsOf, records-are-steps}
-use Rattle.runs.specs.Walk.Sizes.{sized-start, sized-run, sized-from, sized-step}
+use Rattle.runs.specs.Walk.Sizes.{sized-started, sized-run, sized-from, sized-step}
 use Rattle.runs.specs.Holders.HeldStore.{Held}
 use Rattle.runs.specs.Holders.Holders.{held-run, held-step, held-from}
 use Rattle.runs.specs.Walk.Counted.{steps-drive}
@@ -23,7 +23,7 @@ use Rattle.runs.specs.Orphans.Swept.{Ripe, swept-away, swept-clock}
 use Rattle.runs.specs.Orphans.Orphans.{beganCommit, isRetired, stepsAt, bodyLatest, bodyAll, mailLatest, latest, latestOfAll, toldQuiesce, toldTime}
 use Rattle.runs.specs.Orphans.Watch.{Known, Plain, Bounded, Watch}
 use Rattle.runs.specs.Orphans.WatchStore.{knownHead, knownTurn}
-use Rattle.runs.specs.Orphans.WatchSteps.{knownNothing, watch-head, watch-run, watch-start}
+use Rattle.runs.specs.Orphans.WatchSteps.{knownNothing, watch-head, watch-run, watch-started}
 use Rattle.runs.specs.Orphans.OrphansGone.{known-commit, known-watched, known-cleared, bounded-now}
 
 -- ---- the statement
@@ -100,33 +100,33 @@ latest-less t p =
 
 -- ---- the moment
 
-module _ (before : List Step) (slot site : ℕ) (slots : slot < 16) (sites : site < 8)
-    (aborted : passageAt (runOf start before) slot .status ≡ Status.Aborted)
-    (never : beganCommit slot false (historyOf start before) ≡ false) where
+module _ {t₀ : Tables} (fresh : Started t₀) (before : List Step) (slot site : ℕ) (slots : slot < 16) (sites : site < 8)
+    (aborted : passageAt (runOf t₀ before) slot .status ≡ Status.Aborted)
+    (never : beganCommit slot false (historyOf t₀ before) ≡ false) where
   -- the tables at the moment, and T
   abbrev Now : Tables
-  Now = runOf start before
+  Now = runOf t₀ before
 
   abbrev Latest : ℕ
-  Latest = latest (runOf start before) slot
+  Latest = latest (runOf t₀ before) slot
 
   -- from now on the passage is watched
   abbrev Watched : Known
   Watched = record { commit = false; watched = true; cleared = false }
 
   watch-before :
-      Watch Latest site (ghostRun (knownHead slot) knownTurn start before knownNothing) (viewOf Now slot)
-  watch-before = watch-run Latest site slot slots start before knownNothing sized-start (watch-start Latest site slot) .1
+      Watch Latest site (ghostRun (knownHead slot) knownTurn t₀ before knownNothing) (viewOf Now slot)
+  watch-before = watch-run Latest site slot slots t₀ before knownNothing (sized-started fresh) (watch-started fresh Latest site slot) .1
 
   plain-now : Plain (viewOf Now slot)
-  plain-now = watch-before .plain (inl (known-commit slot start before knownNothing ∙ never))
+  plain-now = watch-before .plain (inl (known-commit slot t₀ before knownNothing ∙ never))
 
   watch-now : Watch Latest site Watched (viewOf Now slot)
   watch-now =
       record {
         ending = watch-before .ending;
         plain = λ e. plain-now;
-        watched = λ e. (plain-now, bounded-now before slot slots aborted);
+        watched = λ e. (plain-now, bounded-now fresh before slot slots aborted);
         cleared = λ e. absurd (false≢true e);
       }
 
@@ -136,19 +136,19 @@ module _ (before : List Step) (slot site : ℕ) (slots : slot < 16) (sites : sit
       (accepted : isAccepted (stepOf (runOf Now after) (Step.Sweep site) .answer) ≡ true)
       (reached : Latest ≤ siteAt (stepOf (runOf Now after) (Step.Sweep site) .tables) site .clock) where
     abbrev Then : Tables
-    Then = runOf (runOf start before) after
+    Then = runOf (runOf t₀ before) after
 
     abbrev Swept : Tables
-    Swept = stepOf (runOf (runOf start before) after) (Step.Sweep site) .tables
+    Swept = stepOf (runOf (runOf t₀ before) after) (Step.Sweep site) .tables
 
     abbrev Then-known : Known
-    Then-known = ghostRun (knownHead slot) knownTurn (runOf start before) after Watched
+    Then-known = ghostRun (knownHead slot) knownTurn (runOf t₀ before) after Watched
 
     sized-then : Sized Then
-    sized-then = sized-from Now after (sized-run before)
+    sized-then = sized-from Now after (sized-run fresh before)
 
     watch-then : Watch Latest site Then-known (viewOf Then slot)
-    watch-then = watch-run Latest site slot slots Now after Watched (sized-run before) watch-now .1
+    watch-then = watch-run Latest site slot slots Now after Watched (sized-run fresh before) watch-now .1
 
     watched-then : Then-known .watched ≡ true
     watched-then = known-watched slot Now after Watched refl still
@@ -176,7 +176,7 @@ module _ (before : List Step) (slot site : ℕ) (slots : slot < 16) (sites : sit
     gone-swept = swept-away site slot sites slots Then sized-then accepted ripe
 
     held-swept : Held Swept
-    held-swept = held-step Then (Step.Sweep site) (held-from Now after (held-run before))
+    held-swept = held-step Then (Step.Sweep site) (held-from Now after (held-run fresh before))
 
     swept-nothing : NothingLeft Swept slot site
     swept-nothing = nothing-left Swept slot site held-swept gone-swept
@@ -219,16 +219,16 @@ module _ (before : List Step) (slot site : ℕ) (slots : slot < 16) (sites : sit
   -- accepted steps at the station drive its clock, from any moment after this one
   drive :
       (T : ℕ) (after later : List Step)
-      → T - siteAt (runOf (runOf start before) after) site .clock ≤ stepsAt site (historyOf (runOf (runOf start before) after) later)
-      → T ≤ siteAt (runOf (runOf (runOf start before) after) later) site .clock
+      → T - siteAt (runOf (runOf t₀ before) after) site .clock ≤ stepsAt site (historyOf (runOf (runOf t₀ before) after) later)
+      → T ≤ siteAt (runOf (runOf (runOf t₀ before) after) later) site .clock
   drive T after later i =
       let d : siteAt (runOf Now after) site .clock + stepsAt site (historyOf (runOf Now after) later) ≤ siteAt (runOf (runOf Now after) later) site .clock =
-      steps-drive (runOf Now after) later site (sized-from Now after (sized-run before)) in
+      steps-drive (runOf Now after) later site (sized-from Now after (sized-run fresh before)) in
       omega arith
 
   -- ---- demand 3, for the smaller T
 
-  pub demand-three : Released (runOf start before) slot site (latest (runOf start before) slot)
+  pub demand-three : Released (runOf t₀ before) slot site (latest (runOf t₀ before) slot)
   demand-three =
       record {
         swept = swept-nothing;
@@ -238,7 +238,7 @@ module _ (before : List Step) (slot site : ℕ) (slots : slot < 16) (sites : sit
 
   -- ---- and for the larger one, which is never earlier
 
-  pub demand-three-of-all : Released (runOf start before) slot site (latestOfAll (runOf start before) slot)
+  pub demand-three-of-all : Released (runOf t₀ before) slot site (latestOfAll (runOf t₀ before) slot)
   demand-three-of-all =
       let i : latest Now slot ≤ latestOfAll Now slot = latest-less Now slot in
       record {
@@ -254,10 +254,10 @@ module _ (before : List Step) (slot site : ℕ) (slots : slot < 16) (sites : sit
 -- ---- and for runs of records: they are runs of the steps that they stand for
 
 pub demand-three-records :
-    (records : List (List ℕ)) (slot site : ℕ) → slot < 16 → site < 8
-    → passageAt (runRecordsOf start records) slot .status ≡ Status.Aborted
-    → beganCommit slot false (historyOf start (stepsOf records)) ≡ false
-    → Released (runRecordsOf start records) slot site (latest (runRecordsOf start records) slot)
-demand-three-records records slot site slots sites aborted never =
-    let e : runRecordsOf start records ≡ runOf start (stepsOf records) = records-are-steps start records in
-    rw e (demand-three (stepsOf records) slot site slots sites (rw e at aborted) never)
+    {t₀ : Tables} → Started t₀ → (records : List (List ℕ)) (slot site : ℕ) → slot < 16 → site < 8
+    → passageAt (runRecordsOf t₀ records) slot .status ≡ Status.Aborted
+    → beganCommit slot false (historyOf t₀ (stepsOf records)) ≡ false
+    → Released (runRecordsOf t₀ records) slot site (latest (runRecordsOf t₀ records) slot)
+demand-three-records {t₀} fresh records slot site slots sites aborted never =
+    let e : runRecordsOf t₀ records ≡ runOf t₀ (stepsOf records) = records-are-steps t₀ records in
+    rw e (demand-three fresh (stepsOf records) slot site slots sites (rw e at aborted) never)

@@ -7,11 +7,11 @@ use mathlib.Core.Bool.{Bool, true, false, cond, not, _||_}
 use mathlib.Core.List.{List, [], _∷_}
 use Rattle.rules.specs.Loops.{mostUpTo}
 use Rattle.rules.specs.LoopsLaws.{either, most-at, or-left, or-right, and-left, not-true}
-use Rattle.rules.specs.Tables.{start, passageAt, visitAt, messageAt, noMessage}
+use Rattle.rules.specs.Tables.{passageAt, visitAt, messageAt, noMessage}
 use Rattle.rules.specs.Parts.{isEmpty}
 use Rattle.rules.specs.Answers.{isAccepted}
 use Rattle.rules.specs.Machine.{isMessageOf, stepOf}
-use Rattle.rules.specs.Runs.{runOf, historyOf}
+use Rattle.rules.specs.Runs.{Started, runOf, historyOf}
 use Rattle.rules.specs.declared.looking.Trip.{Trip}
 use Rattle.runs.specs.Types.{Status, Visit, Tables, Step, Outcome}
 use Rattle.runs.specs.Times.View.{viewOf}
@@ -108,41 +108,41 @@ visit-bounded : (v : Visit) (m : ℕ) → visitLatest v ≤ m → BoundedVisit m
 visit-bounded v m i e =
     let j : max (v .quiesce) (v .release) ≤ m = rw e at i in (omega arith, omega arith)
 
-module _ (before : List Step) (slot : ℕ) (place : slot < 16) where
-  visits-bounded : (s : ℕ) → BoundedVisit (latest (runOf start before) slot) (visitAt (runOf start before) s slot)
+module _ {t₀ : Tables} (fresh : Started t₀) (before : List Step) (slot : ℕ) (place : slot < 16) where
+  visits-bounded : (s : ℕ) → BoundedVisit (latest (runOf t₀ before) slot) (visitAt (runOf t₀ before) s slot)
   unfolding latest
   visits-bounded s e =
-      let h : Holds (viewOf (runOf start before) slot) (ledgersOf before slot) = holds-run before slot place in
+      let h : Holds (viewOf (runOf t₀ before) slot) (ledgersOf t₀ before slot) = holds-run fresh before slot place in
       let i : s < 8 = h .sites s (h .mirror s e .0) .place in
-      let j : visitLatest (visitAt (runOf start before) s slot) ≤ mostUpTo (λ x. visitLatest (visitAt (runOf start before) x slot)) 8 =
-      most-at (λ x. visitLatest (visitAt (runOf start before) x slot)) 8 s i in
-      visit-bounded (visitAt (runOf start before) s slot) (latest (runOf start before) slot) (omega arith) e
+      let j : visitLatest (visitAt (runOf t₀ before) s slot) ≤ mostUpTo (λ x. visitLatest (visitAt (runOf t₀ before) x slot)) 8 =
+      most-at (λ x. visitLatest (visitAt (runOf t₀ before) x slot)) 8 s i in
+      visit-bounded (visitAt (runOf t₀ before) s slot) (latest (runOf t₀ before) slot) (omega arith) e
 
   mail-bounded :
-      (k : ℕ) (b : Bool) → isMessageOf slot (messageAt (runOf start before) k) ≡ b
-      → BoundedBody (latest (runOf start before) slot) (cond b (messageAt (runOf start before) k) noMessage .body)
+      (k : ℕ) (b : Bool) → isMessageOf slot (messageAt (runOf t₀ before) k) ≡ b
+      → BoundedBody (latest (runOf t₀ before) slot) (cond b (messageAt (runOf t₀ before) k) noMessage .body)
   unfolding latest
   mail-bounded k false e = zero-le
   mail-bounded k true e =
-      let h : Holds (viewOf (runOf start before) slot) (ledgersOf before slot) = holds-run before slot place in
-      let used : isEmpty (viewOf (runOf start before) slot .mail k .body) ≡ false = rw e (mine e) in
+      let h : Holds (viewOf (runOf t₀ before) slot) (ledgersOf t₀ before slot) = holds-run fresh before slot place in
+      let used : isEmpty (viewOf (runOf t₀ before) slot .mail k .body) ≡ false = rw e (mine e) in
       let i : k < 32 = h .posted k used .0 in
-      let j : mailLatest bodyLatest slot (messageAt (runOf start before) k)
-      ≤ mostUpTo (λ m. mailLatest bodyLatest slot (messageAt (runOf start before) m)) 32 =
-      most-at (λ m. mailLatest bodyLatest slot (messageAt (runOf start before) m)) 32 k i in
-      let l : bodyLatest (messageAt (runOf start before) k .body)
-      ≤ mostUpTo (λ m. mailLatest bodyLatest slot (messageAt (runOf start before) m)) 32 = rw e at j in
+      let j : mailLatest bodyLatest slot (messageAt (runOf t₀ before) k)
+      ≤ mostUpTo (λ m. mailLatest bodyLatest slot (messageAt (runOf t₀ before) m)) 32 =
+      most-at (λ m. mailLatest bodyLatest slot (messageAt (runOf t₀ before) m)) 32 k i in
+      let l : bodyLatest (messageAt (runOf t₀ before) k .body)
+      ≤ mostUpTo (λ m. mailLatest bodyLatest slot (messageAt (runOf t₀ before) m)) 32 = rw e at j in
       omega arith
     where
-      mine : isMessageOf slot (messageAt (runOf start before) k) ≡ true → isEmpty (messageAt (runOf start before) k .body) ≡ false
-      mine y = not-true _ (and-left (not (isEmpty (messageAt (runOf start before) k .body))) _ y)
+      mine : isMessageOf slot (messageAt (runOf t₀ before) k) ≡ true → isEmpty (messageAt (runOf t₀ before) k .body) ≡ false
+      mine y = not-true _ (and-left (not (isEmpty (messageAt (runOf t₀ before) k .body))) _ y)
 
   pub bounded-now :
-      passageAt (runOf start before) slot .status ≡ Status.Aborted
-      → Bounded (latest (runOf start before) slot) (viewOf (runOf start before) slot)
+      passageAt (runOf t₀ before) slot .status ≡ Status.Aborted
+      → Bounded (latest (runOf t₀ before) slot) (viewOf (runOf t₀ before) slot)
   bounded-now e =
       record {
         aborted = e;
         visits = visits-bounded;
-        mail = λ k. mail-bounded k (isMessageOf slot (messageAt (runOf start before) k)) refl;
+        mail = λ k. mail-bounded k (isMessageOf slot (messageAt (runOf t₀ before) k)) refl;
       }

@@ -10,7 +10,7 @@ use lib.Dec.{eqb}
 use lib.ListN.{getD, set}
 use Rattle.rules.specs.declared.tables.Holder.{Holder}
 use Rattle.rules.specs.declared.tables.Object.{Object}
-use Rattle.rules.specs.Tables.{objectAt, start}
+use Rattle.rules.specs.Tables.{objectAt}
 use Rattle.rules.specs.Parts.{isUnheld, taken, operated, unheld, freed, restored}
 use Rattle.rules.specs.Machine.{stepOf}
 use Rattle.runs.specs.Orphans.Orphans.{tellsPrepare}
@@ -30,9 +30,9 @@ unfoldable pub restFrom : Tables → List Step → ℕ → ℕ → ℕ
 restFrom t [] k rest = rest
 restFrom t (s ∷ ss) k rest = restFrom (stepOf t s .tables) ss k (restAfter (stepOf t s .tables) k rest)
 
--- from the start, where nobody holds any
-unfoldable pub restOf : List Step → ℕ → ℕ
-restOf ss k = restFrom start ss k (objectAt start k .value)
+-- where a run begins nobody holds any
+unfoldable pub restOf : Tables → List Step → ℕ → ℕ
+restOf t₀ ss k = restFrom t₀ ss k (objectAt t₀ k .value)
 
 -- object k is held after each of these steps
 abbrev pub HeldThrough : Tables → List Step → ℕ → Type 0

@@ -13,10 +13,10 @@ use Rattle.rules.specs.Parts.{isUnheld}
 use Rattle.rules.specs.StoredLaws.{Sized}
 use Rattle.rules.specs.Machine.{stepOf}
 use Rattle.rules.specs.RefusedLaws.{refused-leaves}
-use Rattle.rules.specs.Runs.{runOf}
+use Rattle.rules.specs.Runs.{Started, runOf}
 use Rattle.runs.specs.Types.{Tables, Step}
 use Rattle.runs.specs.Walk.Steps.{run-on}
-use Rattle.runs.specs.Walk.Sizes.{sized-start, sized-step, sized-run}
+use Rattle.runs.specs.Walk.Sizes.{sized-started, sized-step, sized-run}
 use Rattle.runs.specs.Walk.Plain.{repeat-has}
 use Rattle.runs.specs.Times.Ledgers.{seenAt}
 use Rattle.runs.specs.Orphans.Rests.{isAtRest, restAfter, restFrom, restOf, HeldThrough, commits, standing, standing-unheld, Stands}
@@ -54,73 +54,76 @@ start-at-rest : (k : ℕ) → isAtRest start k ≡ true
 unfolding start
 start-at-rest = repeat-has (λ (o : Object). isUnheld (o .holder) ≡ true) 32 noObject pastObject refl refl
 
-pub rest-stands : (ss : List Step) (k : ℕ) → restOf ss k ≡ standing (objectAt (runOf start ss) k)
+started-at-rest : {t₀ : Tables} → Started t₀ → (k : ℕ) → isAtRest t₀ k ≡ true
+started-at-rest fresh k = rw (fresh .empty) (start-at-rest k)
+
+pub rest-stands : {t₀ : Tables} → Started t₀ → (ss : List Step) (k : ℕ) → restOf t₀ ss k ≡ standing (objectAt (runOf t₀ ss) k)
 unfolding restOf
-rest-stands ss k =
-    rest-from start ss k (objectAt start k .value) sized-start (sym (standing-unheld (objectAt start k) (start-at-rest k)))
+rest-stands {t₀} fresh ss k =
+    rest-from t₀ ss k (objectAt t₀ k .value) (sized-started fresh) (sym (standing-unheld (objectAt t₀ k) (started-at-rest fresh k)))
 
 -- so an object that is held has it as its value before
 pub before-is-rest :
-    (ss : List Step) (k : ℕ) → isAtRest (runOf start ss) k ≡ false → objectAt (runOf start ss) k .before ≡ restOf ss k
-before-is-rest ss k e = rw (rest-stands ss k, e)
+    {t₀ : Tables} → Started t₀ → (ss : List Step) (k : ℕ) → isAtRest (runOf t₀ ss) k ≡ false → objectAt (runOf t₀ ss) k .before ≡ restOf t₀ ss k
+before-is-rest {t₀} fresh ss k e = rw (rest-stands fresh ss k, e)
 
 -- and one that nobody holds has it as its value
 pub value-is-rest :
-    (ss : List Step) (k : ℕ) → isAtRest (runOf start ss) k ≡ true → objectAt (runOf start ss) k .value ≡ restOf ss k
-value-is-rest ss k e = rw (rest-stands ss k, e)
+    {t₀ : Tables} → Started t₀ → (ss : List Step) (k : ℕ) → isAtRest (runOf t₀ ss) k ≡ true → objectAt (runOf t₀ ss) k .value ≡ restOf t₀ ss k
+value-is-rest {t₀} fresh ss k e = rw (rest-stands fresh ss k, e)
 
 -- ---- one more step
 
 -- the step leaves this width at rest
-rest-after-step : (ss : List Step) (s : Step) (k : ℕ) → restOf (ss ++ (s ∷ [])) k ≡ standing (objectAt (stepOf (runOf start ss) s .tables) k)
+rest-after-step : {t₀ : Tables} → Started t₀ → (ss : List Step) (s : Step) (k : ℕ) → restOf t₀ (ss ++ (s ∷ [])) k ≡ standing (objectAt (stepOf (runOf t₀ ss) s .tables) k)
 unfolding runOf
-rest-after-step ss s k = rest-stands (ss ++ (s ∷ [])) k ∙ ap (λ (t : Tables). standing (objectAt t k)) (run-on start ss (s ∷ []))
+rest-after-step {t₀} fresh ss s k = rest-stands fresh (ss ++ (s ∷ [])) k ∙ ap (λ (t : Tables). standing (objectAt t k)) (run-on t₀ ss (s ∷ []))
 
 -- what is known of a step that changes the width at rest of object k: it is accepted, it commits, and the new width is the value that stood written
-pub record Committed (ss : List Step) (s : Step) (k : ℕ) : Type 0 where
-  pub accepted : isAccepted (stepOf (runOf start ss) s .answer) ≡ true
-  pub commit : commits s (seenAt (runOf start ss) s) ≡ true
-  pub width : restOf (ss ++ (s ∷ [])) k ≡ objectAt (runOf start ss) k .value
+pub record Committed (t₀ : Tables) (ss : List Step) (s : Step) (k : ℕ) : Type 0 where
+  pub accepted : isAccepted (stepOf (runOf t₀ ss) s .answer) ≡ true
+  pub commit : commits s (seenAt (runOf t₀ ss) s) ≡ true
+  pub width : restOf t₀ (ss ++ (s ∷ [])) k ≡ objectAt (runOf t₀ ss) k .value
 
 -- only a commit changes a width: no abort, no crash, no sweep and no retire does
 pub only-commits-change :
-    (ss : List Step) (s : Step) (k : ℕ) → restOf (ss ++ (s ∷ [])) k ≢ restOf ss k → Committed ss s k
-only-commits-change ss s k changed =
+    {t₀ : Tables} → Started t₀ → (ss : List Step) (s : Step) (k : ℕ) → restOf t₀ (ss ++ (s ∷ [])) k ≢ restOf t₀ ss k → Committed t₀ ss s k
+only-commits-change {t₀} fresh ss s k changed =
     record {
       accepted =
           ⊎-elim
           (λ e. e)
-          (λ e. absurd (changed (same (ap (λ (t : Tables). standing (objectAt t k)) (refused-leaves (runOf start ss) s e)))))
-          (either (isAccepted (stepOf (runOf start ss) s .answer)));
+          (λ e. absurd (changed (same (ap (λ (t : Tables). standing (objectAt t k)) (refused-leaves (runOf t₀ ss) s e)))))
+          (either (isAccepted (stepOf (runOf t₀ ss) s .answer)));
       commit = ⊎-elim (λ e. absurd (changed (same e))) (λ e. e .0) stands;
       width =
           ⊎-elim
           (λ e. absurd (changed (same e)))
-          (λ e. rest-after-step ss s k ∙ ap standing (e .1))
+          (λ e. rest-after-step fresh ss s k ∙ ap standing (e .1))
           stands;
     }
   where
-    stands : Stands (commits s (seenAt (runOf start ss) s)) (objectAt (runOf start ss) k) (objectAt (stepOf (runOf start ss) s .tables) k)
-    stands = step-stands (runOf start ss) s (sized-run ss) k
+    stands : Stands (commits s (seenAt (runOf t₀ ss) s)) (objectAt (runOf t₀ ss) k) (objectAt (stepOf (runOf t₀ ss) s .tables) k)
+    stands = step-stands (runOf t₀ ss) s (sized-run fresh ss) k
 
     same :
-        standing (objectAt (stepOf (runOf start ss) s .tables) k) ≡ standing (objectAt (runOf start ss) k)
-        → restOf (ss ++ (s ∷ [])) k ≡ restOf ss k
-    same e = rest-after-step ss s k ∙ e ∙ sym (rest-stands ss k)
+        standing (objectAt (stepOf (runOf t₀ ss) s .tables) k) ≡ standing (objectAt (runOf t₀ ss) k)
+        → restOf t₀ (ss ++ (s ∷ [])) k ≡ restOf t₀ ss k
+    same e = rest-after-step fresh ss s k ∙ e ∙ sym (rest-stands fresh ss k)
 
 -- ---- the sweep
 
 -- an object that nobody holds after a sweep has the width that it had at rest before the sweep, whoever held it then
 pub rest-after-sweep :
-    (ss : List Step) (site k : ℕ) → isAtRest (stepOf (runOf start ss) (Step.Sweep site) .tables) k ≡ true
-    → objectAt (stepOf (runOf start ss) (Step.Sweep site) .tables) k .value ≡ restOf ss k
-rest-after-sweep ss site k free =
-    sym (standing-unheld (objectAt (stepOf (runOf start ss) (Step.Sweep site) .tables) k) free)
+    {t₀ : Tables} → Started t₀ → (ss : List Step) (site k : ℕ) → isAtRest (stepOf (runOf t₀ ss) (Step.Sweep site) .tables) k ≡ true
+    → objectAt (stepOf (runOf t₀ ss) (Step.Sweep site) .tables) k .value ≡ restOf t₀ ss k
+rest-after-sweep {t₀} fresh ss site k free =
+    sym (standing-unheld (objectAt (stepOf (runOf t₀ ss) (Step.Sweep site) .tables) k) free)
     ∙ ⊎-elim
     (λ e. e)
     (λ e. absurd (false≢true (e .0)))
-    (step-stands (runOf start ss) (Step.Sweep site) (sized-run ss) k)
-    ∙ sym (rest-stands ss k)
+    (step-stands (runOf t₀ ss) (Step.Sweep site) (sized-run fresh ss) k)
+    ∙ sym (rest-stands fresh ss k)
 
 -- while an object is held its width at rest stays
 rest-while-held : (t : Tables) (ss : List Step) (k rest : ℕ) → HeldThrough t ss k → restFrom t ss k rest ≡ rest
@@ -138,25 +141,25 @@ rest-from-after t (s ∷ ss) later k rest =
 
 -- the width at rest is what it is called: the value at the last moment at which nobody held the object
 pub rest-is-last-free :
-    (ss later : List Step) (k : ℕ) → isAtRest (runOf start ss) k ≡ true → HeldThrough (runOf start ss) later k
-    → restOf (ss ++ later) k ≡ objectAt (runOf start ss) k .value
+    {t₀ : Tables} → Started t₀ → (ss later : List Step) (k : ℕ) → isAtRest (runOf t₀ ss) k ≡ true → HeldThrough (runOf t₀ ss) later k
+    → restOf t₀ (ss ++ later) k ≡ objectAt (runOf t₀ ss) k .value
 unfolding restOf
-rest-is-last-free ss later k free held =
-    rest-from-after start ss later k (objectAt start k .value)
-    ∙ rest-while-held (runOf start ss) later k (restFrom start ss k (objectAt start k .value)) held
-    ∙ sym (value-is-rest ss k free)
+rest-is-last-free {t₀} fresh ss later k free held =
+    rest-from-after t₀ ss later k (objectAt t₀ k .value)
+    ∙ rest-while-held (runOf t₀ ss) later k (restFrom t₀ ss k (objectAt t₀ k .value)) held
+    ∙ sym (value-is-rest fresh ss k free)
 
 -- "restores and frees its objects": nobody holds object k after the steps ss, it is held after each later one, and then a sweep frees it;
 -- it has the width again that it had after ss, whatever was written since
 pub figures-undone :
-    (ss later : List Step) (site k : ℕ) → isAtRest (runOf start ss) k ≡ true → HeldThrough (runOf start ss) later k
-    → isAtRest (stepOf (runOf (runOf start ss) later) (Step.Sweep site) .tables) k ≡ true
-    → objectAt (stepOf (runOf (runOf start ss) later) (Step.Sweep site) .tables) k .value ≡ objectAt (runOf start ss) k .value
-figures-undone ss later site k free held swept =
-    ap (λ (t : Tables). objectAt (stepOf t (Step.Sweep site) .tables) k .value) (sym (run-on start ss later))
-    ∙ rest-after-sweep
+    {t₀ : Tables} → Started t₀ → (ss later : List Step) (site k : ℕ) → isAtRest (runOf t₀ ss) k ≡ true → HeldThrough (runOf t₀ ss) later k
+    → isAtRest (stepOf (runOf (runOf t₀ ss) later) (Step.Sweep site) .tables) k ≡ true
+    → objectAt (stepOf (runOf (runOf t₀ ss) later) (Step.Sweep site) .tables) k .value ≡ objectAt (runOf t₀ ss) k .value
+figures-undone {t₀} fresh ss later site k free held swept =
+    ap (λ (t : Tables). objectAt (stepOf t (Step.Sweep site) .tables) k .value) (sym (run-on t₀ ss later))
+    ∙ rest-after-sweep fresh
     (ss ++ later)
     site
     k
-    (ap (λ (t : Tables). isAtRest (stepOf t (Step.Sweep site) .tables) k) (run-on start ss later) ∙ swept)
-    ∙ rest-is-last-free ss later k free held
+    (ap (λ (t : Tables). isAtRest (stepOf t (Step.Sweep site) .tables) k) (run-on t₀ ss later) ∙ swept)
+    ∙ rest-is-last-free fresh ss later k free held

@@ -18,7 +18,7 @@ use Rattle.rules.specs.Calls.{invokeOf, invokeDone, dropOf, dropDone}
 use Rattle.rules.specs.Machine.{lookOf, placesOf, seenOf, remains, decideOf, headOf, tripPlaces, turnOf, foundOf}
 use Rattle.rules.specs.StoredLaws.{Sized, turn-stored}
 use Rattle.rules.specs.RangesLaws.{placed-places, placed-trip}
-use Rattle.rules.specs.Runs.{runOf}
+use Rattle.rules.specs.Runs.{Started, runOf}
 use Rattle.runs.specs.Types.{Kind, Status, Passage, Body, Tables, Step, Places, Seen, Decision, Outcome}
 use Rattle.runs.specs.Walk.Plain.{repeat-has}
 use Rattle.runs.specs.Times.View.{mailOf, viewOf}
@@ -172,7 +172,7 @@ module _ (latest site p : ℕ) (place : p < 16) where
 abbrev pub knownNothing : Known
 knownNothing = record { commit = false; watched = false; cleared = false }
 
-pub watch-start : (latest site p : ℕ) → Watch latest site knownNothing (viewOf start p)
+watch-start : (latest site p : ℕ) → Watch latest site knownNothing (viewOf start p)
 unfolding start
 watch-start latest site p =
     watch-unwatched
@@ -192,3 +192,6 @@ watch-start latest site p =
   where
     free : passageAt start p .status ≡ Status.Free
     free = repeat-has (λ (x : Passage). x .status ≡ Status.Free) 16 (freeSlot 0) pastPassage refl refl p
+
+pub watch-started : {t₀ : Tables} → Started t₀ → (latest site p : ℕ) → Watch latest site knownNothing (viewOf t₀ p)
+watch-started fresh latest site p = rw (fresh .empty) (watch-start latest site p)

@@ -22,12 +22,12 @@ use Rattle.rules.specs.StoredLaws.{Sized, Placed, passage-after-stored, passage
 use Rattle.rules.specs.RangesLaws.{placed-places, placed-trip}
 use Rattle.rules.specs.RefusedLaws.{refused-leaves}
 use Rattle.rules.specs.Record.{rowOf, isNamed, flatOf}
-use Rattle.rules.specs.Runs.{Entry, runOf, entryOf, entriesOf, historyOf}
+use Rattle.rules.specs.Runs.{Started, Entry, runOf, entryOf, entriesOf, historyOf}
 use Rattle.rules.specs.Views.{Generation, Handle, deedOf}
 use Rattle.runs.specs.Types.{Passage, Tables, Step, Places, Seen, Outcome, Found}
 use Rattle.runs.specs.Walk.Put.{same-or-other}
 use Rattle.runs.specs.Walk.Steps.{accepted-turned, head-accepted, run-on}
-use Rattle.runs.specs.Walk.Sizes.{sized-start, sized-run, sized-step, sized-accepted-has}
+use Rattle.runs.specs.Walk.Sizes.{sized-started, sized-run, sized-step, sized-accepted-has}
 use Rattle.runs.specs.Walk.Plain.{repeat-has}
 use Rattle.runs.specs.Orphans.Orphans.{retires}
 
@@ -191,17 +191,17 @@ unfolding start
 generation-start = repeat-has (λ (x : Passage). x .generation < 256) 16 (freeSlot 0) pastPassage (omega arith) (omega arith)
 
 -- in every run a generation is one byte
-pub generation-below : (ss : List Step) (p : ℕ) → generationAt (runOf start ss) p < 256
-generation-below ss p = generation-from start ss p sized-start (generation-start p) .0
+pub generation-below : {t₀ : Tables} → Started t₀ → (ss : List Step) (p : ℕ) → generationAt (runOf t₀ ss) p < 256
+generation-below {t₀} fresh ss p = generation-from t₀ ss p (sized-started fresh) (rw (fresh .empty) (generation-start p)) .0
 
 -- the generation counts the accepted retires: what a run adds is their number, and 255 is followed by 0
 pub generation-counts-retires :
-    (before after : List Step) (p : ℕ)
-    → generationAt (runOf start (before ++ after)) p
-    ≡ (generationAt (runOf start before) p + retiresIn p (historyOf (runOf start before) after)) % 256
-generation-counts-retires before after p =
-    ap (λ (t : Tables). generationAt t p) (run-on start before after)
-    ∙ generation-from (runOf start before) after p (sized-run before) (generation-below before p) .1
+    {t₀ : Tables} → Started t₀ → (before after : List Step) (p : ℕ)
+    → generationAt (runOf t₀ (before ++ after)) p
+    ≡ (generationAt (runOf t₀ before) p + retiresIn p (historyOf (runOf t₀ before) after)) % 256
+generation-counts-retires {t₀} fresh before after p =
+    ap (λ (t : Tables). generationAt t p) (run-on t₀ before after)
+    ∙ generation-from (runOf t₀ before) after p (sized-run fresh before) (generation-below fresh before p) .1
 
 -- ---- handles
 
@@ -245,35 +245,35 @@ module _ (t : Tables) (h : ℕ) (old : generationAt t (slotOf h) ≢ generationO
 
 -- An old handle reaches nobody: once its passage has been retired, and until its slot has been retired 256 times, every step that names it is refused
 pub old-handle-reaches-nobody :
-    (before after : List Step) (h : ℕ) → generationOf h ≡ generationAt (runOf start before) (slotOf h)
-    → 1 ≤ retiresIn (slotOf h) (historyOf (runOf start before) after)
-    → retiresIn (slotOf h) (historyOf (runOf start before) after) ≤ 255
+    {t₀ : Tables} → Started t₀ → (before after : List Step) (h : ℕ) → generationOf h ≡ generationAt (runOf t₀ before) (slotOf h)
+    → 1 ≤ retiresIn (slotOf h) (historyOf (runOf t₀ before) after)
+    → retiresIn (slotOf h) (historyOf (runOf t₀ before) after) ≤ 255
     → (step : Step)
     → names h step ≡ true
-    → isAccepted (stepOf (runOf start (before ++ after)) step .answer) ≡ false
-old-handle-reaches-nobody before after h e least most =
+    → isAccepted (stepOf (runOf t₀ (before ++ after)) step .answer) ≡ false
+old-handle-reaches-nobody {t₀} fresh before after h e least most =
     other-generation-refused
-    (runOf start (before ++ after))
+    (runOf t₀ (before ++ after))
     h
     (λ q.
     apart
-    (generationAt (runOf start before) (slotOf h))
-    (retiresIn (slotOf h) (historyOf (runOf start before) after))
-    (generation-below before (slotOf h))
+    (generationAt (runOf t₀ before) (slotOf h))
+    (retiresIn (slotOf h) (historyOf (runOf t₀ before) after))
+    (generation-below fresh before (slotOf h))
     least
     most
-    (sym (generation-counts-retires before after (slotOf h)) ∙ q ∙ e))
+    (sym (generation-counts-retires fresh before after (slotOf h)) ∙ q ∙ e))
   where
     apart : (g n : ℕ) → g < 256 → 1 ≤ n → n ≤ 255 → (g + n) % 256 ≢ g
     apart g n l i j q = let y : (g + n) % 256 ≡ g = q in omega arith
 
 -- "A handle held through 256 reuses of its slot is valid again": the generation is then the same
 pub generation-comes-round :
-    (before after : List Step) (p : ℕ) → retiresIn p (historyOf (runOf start before) after) ≡ 256
-    → generationAt (runOf start (before ++ after)) p ≡ generationAt (runOf start before) p
-generation-comes-round before after p e =
-    let l : generationAt (runOf start before) p < 256 = generation-below before p in
-    generation-counts-retires before after p
+    {t₀ : Tables} → Started t₀ → (before after : List Step) (p : ℕ) → retiresIn p (historyOf (runOf t₀ before) after) ≡ 256
+    → generationAt (runOf t₀ (before ++ after)) p ≡ generationAt (runOf t₀ before) p
+generation-comes-round {t₀} fresh before after p e =
+    let l : generationAt (runOf t₀ before) p < 256 = generation-below fresh before p in
+    generation-counts-retires fresh before after p
     ∙ (rw e (omega arith))
 
 -- ---- begin

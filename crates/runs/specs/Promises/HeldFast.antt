@@ -14,7 +14,7 @@ use Rattle.rules.specs.declared.tables.Object.{Object}
 use Rattle.rules.specs.declared.looking.Trip.{Trip}
 use Rattle.rules.specs.declared.outcomes.Check.{Check}
 use Rattle.rules.specs.LoopsLaws.{either, cond-keeps}
-use Rattle.rules.specs.Tables.{start, pastObject, siteAt, objectAt, passageAt, visitAt, bankAt, objectSite, slotOf}
+use Rattle.rules.specs.Tables.{pastObject, siteAt, objectAt, passageAt, visitAt, bankAt, objectSite, slotOf}
 use Rattle.rules.specs.Answers.{firstOf, settleOf}
 use Rattle.rules.specs.Parts.{nextClock, isHeldBy, taken, operated, unheld, freed, restored, eachOf, toldVisit, toldObjects}
 use Rattle.rules.specs.Stations.{isSwept, sweptSlot, crashedSlot}
@@ -23,7 +23,7 @@ use Rattle.rules.specs.Calls.{mailSlot, calledObject, called, deliverCallOf, de
 use Rattle.rules.specs.Machine.{lookOf, placesOf, seenOf, bodyBank, decideOf, stored, headOf, turnOf, stepOf, tripPlaces, turnSeen}
 use Rattle.rules.specs.StoredLaws.{Sized, Placed, visit-after-stored, turn-stored}
 use Rattle.rules.specs.RangesLaws.{placed-places, placed-trip}
-use Rattle.rules.specs.Runs.{runOf}
+use Rattle.rules.specs.Runs.{Started, runOf}
 use Rattle.rules.specs.StoredObjects.{seen-object-at, object-after-stored, object-after-stored-other, each-at}
 use Rattle.rules.specs.Views.{settled, Objects, Mail, mailOf, deedOf}
 use Rattle.runs.specs.Types.{Visit, Call, Told, Body, Tables, Step, Places, Seen, Outcome, Found}
@@ -234,15 +234,15 @@ module _ (k p : ℕ) (slot : p < 16) where
 -- What a station has promised it keeps: in every run, an object that a passage holds where its visit is prepared
 -- is held by it after every step that is no word of home to that visit
 pub promised-object-held :
-    (ss : List Step) (step : Step) (k p : ℕ) → p < 16 → Promised (runOf start ss) (objectSite k) p
-    → objectAt (runOf start ss) k .holder ≡ Holder.Slot p
-    → isWord (runOf start ss) (objectSite k) p step ≡ false
-    → objectAt (stepOf (runOf start ss) step .tables) k .holder ≡ Holder.Slot p
-promised-object-held ss step k p slot promised held f =
+    {t₀ : Tables} → Started t₀ → (ss : List Step) (step : Step) (k p : ℕ) → p < 16 → Promised (runOf t₀ ss) (objectSite k) p
+    → objectAt (runOf t₀ ss) k .holder ≡ Holder.Slot p
+    → isWord (runOf t₀ ss) (objectSite k) p step ≡ false
+    → objectAt (stepOf (runOf t₀ ss) step .tables) k .holder ≡ Holder.Slot p
+promised-object-held {t₀} fresh ss step k p slot promised held f =
     ⊎-elim
     (λ e. e)
-    (λ gone. absurd (true≢false (sym (promised-stays (objectSite k) p slot (runOf start ss) step (sized-run ss) promised f) ∙ gone)))
-    (let-go-with-visit k p slot (runOf start ss) step (sized-run ss) held)
+    (λ gone. absurd (true≢false (sym (promised-stays (objectSite k) p slot (runOf t₀ ss) step (sized-run fresh ss) promised f) ∙ gone)))
+    (let-go-with-visit k p slot (runOf t₀ ss) step (sized-run fresh ss) held)
 
 -- the visit of this slot is there after each of the steps
 unfoldable pub ThereThrough : Tables → ℕ → ℕ → List Step → Type 0
@@ -268,8 +268,8 @@ held-through t (x ∷ xs) k p slot z held there =
 
 -- an object that a passage holds is held by it as long as its visit at the object's site is there
 pub object-held-while-visit-there :
-    (before after : List Step) (k p : ℕ) → p < 16 → objectAt (runOf start before) k .holder ≡ Holder.Slot p
-    → ThereThrough (runOf start before) (objectSite k) p after
-    → objectAt (runOf start (before ++ after)) k .holder ≡ Holder.Slot p
-object-held-while-visit-there before after k p slot held there =
-    rw (run-on start before after) (held-through (runOf start before) after k p slot (sized-run before) held there)
+    {t₀ : Tables} → Started t₀ → (before after : List Step) (k p : ℕ) → p < 16 → objectAt (runOf t₀ before) k .holder ≡ Holder.Slot p
+    → ThereThrough (runOf t₀ before) (objectSite k) p after
+    → objectAt (runOf t₀ (before ++ after)) k .holder ≡ Holder.Slot p
+object-held-while-visit-there {t₀} fresh before after k p slot held there =
+    rw (run-on t₀ before after) (held-through (runOf t₀ before) after k p slot (sized-run fresh before) held there)

@@ -10,7 +10,7 @@ use borrow.Author.Tests.{eq-eqb}
 use Rattle.rules.specs.declared.looking.Trip.{Trip}
 use Rattle.rules.specs.declared.outcomes.Check.{Check}
 use Rattle.rules.specs.LoopsLaws.{either, cond-keeps}
-use Rattle.rules.specs.Tables.{start, passageAt, visitAt, messageAt, slotOf}
+use Rattle.rules.specs.Tables.{passageAt, visitAt, messageAt, slotOf}
 use Rattle.rules.specs.Answers.{isAccepted, firstOf, settleOf}
 use Rattle.rules.specs.Parts.{whereThere, toldOf, toldVisit}
 use Rattle.rules.specs.Stations.{sweptSlot, losesHome, crashedSlot}
@@ -22,7 +22,7 @@ use Rattle.rules.specs.StoredLaws.{Sized, Placed, visit-place-same, visit-after
 use Rattle.rules.specs.RangesLaws.{placed-places, placed-trip}
 use Rattle.rules.specs.RefusedLaws.{refused-leaves}
 use Rattle.rules.specs.Record.{flatOf, isStep}
-use Rattle.rules.specs.Runs.{runOf}
+use Rattle.rules.specs.Runs.{Started, runOf}
 use Rattle.rules.specs.Views.{settled, Marks, Mail, mailOf, deedOf}
 use Rattle.runs.specs.Types.{Kind, Visit, Told, Body, Message, Tables, Step, Places, Seen, Outcome, Found}
 use Rattle.runs.specs.Walk.Put.{same-or-other}
@@ -252,7 +252,7 @@ module _ (s p : ℕ) (slot : p < 16) where
 -- A station that has promised keeps its promise until home's word: in every run, a step after which a prepared visit is gone
 -- is an accepted close of its passage's commit round, at home, or an accepted delivery there of a commit's phase 2 for its slot
 pub promise-kept-until-word :
-    (ss : List Step) (step : Step) (s p : ℕ) → p < 16 → Promised (runOf start ss) s p
-    → visitAt (stepOf (runOf start ss) step .tables) s p .there ≡ false
-    → (isAccepted (stepOf (runOf start ss) step .answer) ≡ true) × (isWord (runOf start ss) s p step ≡ true)
-promise-kept-until-word ss step s p slot = promised-until-word s p slot (runOf start ss) step (sized-run ss)
+    {t₀ : Tables} → Started t₀ → (ss : List Step) (step : Step) (s p : ℕ) → p < 16 → Promised (runOf t₀ ss) s p
+    → visitAt (stepOf (runOf t₀ ss) step .tables) s p .there ≡ false
+    → (isAccepted (stepOf (runOf t₀ ss) step .answer) ≡ true) × (isWord (runOf t₀ ss) s p step ≡ true)
+promise-kept-until-word {t₀} fresh ss step s p slot = promised-until-word s p slot (runOf t₀ ss) step (sized-run fresh ss)

@@ -10,7 +10,7 @@ use Rattle.rules.specs.declared.tables.Holder.{Holder}
 use Rattle.rules.specs.declared.looking.Trip.{Trip}
 use Rattle.rules.specs.declared.outcomes.Check.{Check}
 use Rattle.rules.specs.LoopsLaws.{either, or-left, or-right, not-false, cond-keeps}
-use Rattle.rules.specs.Tables.{start, objectAt, passageAt, visitAt, messageAt, objectSite, slotOf}
+use Rattle.rules.specs.Tables.{objectAt, passageAt, visitAt, messageAt, objectSite, slotOf}
 use Rattle.rules.specs.Answers.{isAccepted, firstOf, settleOf}
 use Rattle.rules.specs.AnswersLaws.{Fine}
 use Rattle.rules.specs.Parts.{isFree, abortedPassage, whereThere, toldOf, toldVisit, askedVisit}
@@ -23,7 +23,7 @@ use Rattle.rules.specs.StoredLaws.{Sized, Placed, passage-after-stored, passage
 use Rattle.rules.specs.RangesLaws.{placed-places, placed-trip}
 use Rattle.rules.specs.RefusedLaws.{refused-leaves}
 use Rattle.rules.specs.Record.{flatOf, isStep}
-use Rattle.rules.specs.Runs.{runOf}
+use Rattle.rules.specs.Runs.{Started, runOf}
 use Rattle.rules.specs.Views.{settled, Marks, Mail, mailOf, Goes, deedOf}
 use Rattle.runs.specs.Types.{Kind, Passage, Visit, Asked, Told, Body, Message, Tables, Step, Places, Seen, Outcome, Found}
 use Rattle.runs.specs.Walk.Put.{same-or-other}
@@ -290,18 +290,18 @@ pub record StandsFrom (t u : Tables) (site slot : ℕ) : Type 0 where
   pub promised : Promised u site slot
   pub objects : (k : ℕ) → objectSite k ≡ site → objectAt t k .holder ≡ Holder.Slot slot → objectAt u k .holder ≡ Holder.Slot slot
 
-module _ (s p : ℕ) (slot : p < 16) where
+module _ {t₀ : Tables} (fresh : Started t₀) (s p : ℕ) (slot : p < 16) where
   -- in a run the slot of a visit is in use
-  in-use : (ss : List Step) → visitAt (runOf start ss) s p .there ≡ true → isFree (passageAt (runOf start ss) p .status) ≡ false
+  in-use : (ss : List Step) → visitAt (runOf t₀ ss) s p .there ≡ true → isFree (passageAt (runOf t₀ ss) p .status) ≡ false
   in-use ss there =
       ⊎-elim
-      (λ e. absurd (true≢false (sym there ∙ free-no-visit ss p slot (free-says (passageAt (runOf start ss) p .status) e) s)))
+      (λ e. absurd (true≢false (sym there ∙ free-no-visit fresh ss p slot (free-says (passageAt (runOf t₀ ss) p .status) e) s)))
       (λ e. e)
-      (either (isFree (passageAt (runOf start ss) p .status)))
+      (either (isFree (passageAt (runOf t₀ ss) p .status)))
 
   one-step :
-      (ss : List Step) (x : Step) → Promised (runOf start ss) s p → (isAccepted (stepOf (runOf start ss) x .answer) && letsOff (runOf start ss) s p x) ≡ false
-      → StandsFrom (runOf start ss) (stepOf (runOf start ss) x .tables) s p
+      (ss : List Step) (x : Step) → Promised (runOf t₀ ss) s p → (isAccepted (stepOf (runOf t₀ ss) x .answer) && letsOff (runOf t₀ ss) s p x) ≡ false
+      → StandsFrom (runOf t₀ ss) (stepOf (runOf t₀ ss) x .tables) s p
   one-step ss x k f =
       record {
         promised = next;
@@ -309,27 +309,27 @@ module _ (s p : ℕ) (slot : p < 16) where
             λ j y held.
             ⊎-elim
             (λ e. e)
-            (λ gone. absurd (true≢false (sym (next .there) ∙ subst (λ (a : ℕ). visitAt (stepOf (runOf start ss) x .tables) a p .there ≡ false) y gone)))
-            (let-go-with-visit j p slot (runOf start ss) x (sized-run ss) held);
+            (λ gone. absurd (true≢false (sym (next .there) ∙ subst (λ (a : ℕ). visitAt (stepOf (runOf t₀ ss) x .tables) a p .there ≡ false) y gone)))
+            (let-go-with-visit j p slot (runOf t₀ ss) x (sized-run fresh ss) held);
       }
     where
-      next : Promised (stepOf (runOf start ss) x .tables) s p
+      next : Promised (stepOf (runOf t₀ ss) x .tables) s p
       next =
           ⊎-elim
-          (λ e. promise-stands s p slot (runOf start ss) x (sized-run ss) k (in-use ss (k .there)) (rw e at f))
-          (λ e. rw (refused-leaves (runOf start ss) x e) k)
-          (either (isAccepted (stepOf (runOf start ss) x .answer)))
+          (λ e. promise-stands s p slot (runOf t₀ ss) x (sized-run fresh ss) k (in-use ss (k .there)) (rw e at f))
+          (λ e. rw (refused-leaves (runOf t₀ ss) x e) k)
+          (either (isAccepted (stepOf (runOf t₀ ss) x .answer)))
 
   run-stands :
-      (ss after : List Step) → Promised (runOf start ss) s p → letOffIn (runOf start ss) s p after ≡ false
-      → StandsFrom (runOf start ss) (runOf (runOf start ss) after) s p
+      (ss after : List Step) → Promised (runOf t₀ ss) s p → letOffIn (runOf t₀ ss) s p after ≡ false
+      → StandsFrom (runOf t₀ ss) (runOf (runOf t₀ ss) after) s p
   unfolding runOf letOffIn
   run-stands ss [] k f = record { promised = k; objects = λ j y held. held }
   run-stands ss (x ∷ xs) k f =
-      let now : Bool = isAccepted (stepOf (runOf start ss) x .answer) && letsOff (runOf start ss) s p x in
-      let e : runOf start (ss ++ (x ∷ [])) ≡ stepOf (runOf start ss) x .tables = run-on start ss (x ∷ []) in
-      let a : StandsFrom (runOf start ss) (stepOf (runOf start ss) x .tables) s p = one-step ss x k (or-left now _ f) in
-      let b : StandsFrom (stepOf (runOf start ss) x .tables) (runOf (stepOf (runOf start ss) x .tables) xs) s p =
+      let now : Bool = isAccepted (stepOf (runOf t₀ ss) x .answer) && letsOff (runOf t₀ ss) s p x in
+      let e : runOf t₀ (ss ++ (x ∷ [])) ≡ stepOf (runOf t₀ ss) x .tables = run-on t₀ ss (x ∷ []) in
+      let a : StandsFrom (runOf t₀ ss) (stepOf (runOf t₀ ss) x .tables) s p = one-step ss x k (or-left now _ f) in
+      let b : StandsFrom (stepOf (runOf t₀ ss) x .tables) (runOf (stepOf (runOf t₀ ss) x .tables) xs) s p =
       subst
       (λ (t : Tables). Promised t s p → letOffIn t s p xs ≡ false → StandsFrom t (runOf t xs) s p)
       e
@@ -341,8 +341,8 @@ module _ (s p : ℕ) (slot : p < 16) where
 -- A promise stands until home lets the station off: in every run, as long as no accepted step does,
 -- the visit is there and prepared, and every object that the passage held at the site is held by it
 pub promise-stands-until-let-off :
-    (before after : List Step) (s p : ℕ) → p < 16 → Promised (runOf start before) s p
-    → letOffIn (runOf start before) s p after ≡ false
-    → StandsFrom (runOf start before) (runOf start (before ++ after)) s p
-promise-stands-until-let-off before after s p slot k f =
-    rw (run-on start before after) (run-stands s p slot before after k f)
+    {t₀ : Tables} → Started t₀ → (before after : List Step) (s p : ℕ) → p < 16 → Promised (runOf t₀ before) s p
+    → letOffIn (runOf t₀ before) s p after ≡ false
+    → StandsFrom (runOf t₀ before) (runOf t₀ (before ++ after)) s p
+promise-stands-until-let-off {t₀} fresh before after s p slot k f =
+    rw (run-on t₀ before after) (run-stands fresh s p slot before after k f)

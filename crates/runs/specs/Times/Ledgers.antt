@@ -19,7 +19,7 @@ use Rattle.rules.specs.Passages.{beginOf, beginDone, abortOf, abortDone, retire
 use Rattle.rules.specs.Rounds.{refreshOf, terminateOf, prepareOf, openOf, openDone, askOf, askDone, closeOf, closeDone, tellOf, tellDone}
 use Rattle.rules.specs.Calls.{invokeOf, invokeDone, dropOf, dropDone}
 use Rattle.rules.specs.Machine.{lookOf, placesOf, seenOf, remains, decideOf, headOf, tripPlaces, turnSeen, turnOf, foundOf}
-use Rattle.rules.specs.Runs.{runOf}
+use Rattle.rules.specs.Runs.{Started, runOf}
 use Rattle.runs.specs.Types.{Kind, Passage, Body, Tables, Step, Places, Seen, Outcome}
 use Rattle.rules.specs.declared.looking.Trip.{Trip}
 use Rattle.runs.specs.Walk.Plain.{repeat-has}
@@ -61,9 +61,9 @@ turnLedgers trip slot t ls =
     (seenOf t (tripPlaces trip slot))
     (turnSeen trip slot (seenOf t (tripPlaces trip slot)))
 
--- from the start, where no slot has a ledger
-unfoldable pub ledgersOf : List Step → ℕ → Ledger
-ledgersOf ss = ghostRun headLedgers turnLedgers start ss (λ p. noLedger)
+-- where a run begins no slot has a ledger
+unfoldable pub ledgersOf : Tables → List Step → ℕ → Ledger
+ledgersOf t₀ ss = ghostRun headLedgers turnLedgers t₀ ss (λ p. noLedger)
 
 -- ---- the invariant
 
@@ -208,6 +208,7 @@ start-kept =
     }
 
 -- ---- so it holds in every run
-pub kept-run : (ss : List Step) → Kept (runOf start ss) (ledgersOf ss)
+pub kept-run : {t₀ : Tables} → Started t₀ → (ss : List Step) → Kept (runOf t₀ ss) (ledgersOf t₀ ss)
 unfolding ledgersOf
-kept-run ss = run-keeps headLedgers turnLedgers Kept head-kept turn-kept start ss (λ p. noLedger) start-kept
+kept-run {t₀} fresh ss =
+    run-keeps headLedgers turnLedgers Kept head-kept turn-kept t₀ ss (λ p. noLedger) (rw (fresh .empty) start-kept)

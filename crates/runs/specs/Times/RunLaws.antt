@@ -4,9 +4,9 @@ use mathlib.Core.Path.{_≡_, refl, sym, ap, _∙_}
 use mathlib.Core.Logic.{_≢_, _⊎_}
 use mathlib.Core.Bool.{true, false, true≢false}
 use mathlib.Core.List.{List}
-use Rattle.rules.specs.Tables.{start, siteAt, passageAt, visitAt, messageAt, slotOf}
+use Rattle.rules.specs.Tables.{siteAt, passageAt, visitAt, messageAt, slotOf}
 use Rattle.rules.specs.Parts.{isEmpty, hasAnswered, isClosed}
-use Rattle.rules.specs.Runs.{runOf}
+use Rattle.rules.specs.Runs.{Started, runOf}
 use Rattle.runs.specs.Types.{Phase, Status, Call, Body, Message, Tables, Step}
 use Rattle.runs.specs.Times.View.{Ledger, viewOf}
 use Rattle.runs.specs.Times.Clauses.{isRefresh, isBinding, Below, Quiet, Holds}
@@ -16,16 +16,16 @@ use Rattle.runs.specs.Kept.Closing.{closing-refresh, closing-binding}
 use Rattle.runs.specs.Kept.Calls.{never-twice}
 use Rattle.runs.specs.Times.Ledgers.{ledgersOf, kept-run}
 
-module _ (ss : List Step) (p : ℕ) (slot : p < 16) where
+module _ {t₀ : Tables} (fresh : Started t₀) (ss : List Step) (p : ℕ) (slot : p < 16) where
   -- the tables that the run left, and what they and the ledger say of the slot
   abbrev Left : Tables
-  Left = runOf start ss
+  Left = runOf t₀ ss
 
   abbrev Past : Ledger
-  Past = ledgersOf ss p
+  Past = ledgersOf t₀ ss p
 
   pub holds-run : Holds (viewOf Left p) Past
-  holds-run = kept-run ss .slots p slot
+  holds-run = kept-run fresh ss .slots p slot
 
   -- a message of the slot is seen by it as it is
   mine : (m : ℕ) (c : Call) → messageAt Left m .body ≡ Body.Call c → slotOf (messageAt Left m .handle) ≡ p → viewOf Left p .mail m ≡ messageAt Left m

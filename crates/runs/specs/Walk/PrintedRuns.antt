@@ -5,7 +5,7 @@ use mathlib.Core.Path.{_≡_, refl, sym, ap, _∙_}
 use mathlib.Core.List.{List, [], _∷_, _++_}
 use Rattle.rules.specs.Tables.{start}
 use Rattle.rules.specs.Record.{stepRecordOf}
-use Rattle.rules.specs.Runs.{runRecordsOf}
+use Rattle.rules.specs.Runs.{start-started, runRecordsOf}
 use Rattle.rules.specs.Sheet.{recordAt, recordsUpTo}
 use Rattle.rules.specs.Listing.{printedUpTo}
 use Rattle.runs.specs.Types.{Tables}
@@ -27,4 +27,4 @@ printed-is-run part (suc n) =
 
 -- so the time rule holds at every line of every listing
 pub time-rule-listing : (part : List ℕ) (n : ℕ) → TimeRule (printedUpTo part n .tables)
-time-rule-listing part n = rw (printed-is-run part n) (time-rule-records (recordsUpTo part n))
+time-rule-listing part n = rw (printed-is-run part n) (time-rule-records start-started (recordsUpTo part n))

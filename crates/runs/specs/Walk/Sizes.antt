@@ -10,7 +10,7 @@ use Rattle.rules.specs.Tables.{start}
 use Rattle.rules.specs.Answers.{isAccepted}
 use Rattle.rules.specs.Machine.{lookOf, headOf, turnOf, stepOf}
 use Rattle.rules.specs.StoredLaws.{Sized, sized-after-stored, sized-after-turn, sized-after-step}
-use Rattle.rules.specs.Runs.{runOf}
+use Rattle.rules.specs.Runs.{Started, runOf}
 use Rattle.runs.specs.Types.{Tables, Step, Outcome}
 use Rattle.runs.specs.Walk.Steps.{turnedOf, turnsOf, accepted-has, step-has, step-keeps, run-keeps}
 
@@ -51,7 +51,7 @@ module _ (Good : Tables → Type 0)
 
 -- ---- the lengths
 
-pub sized-start : Sized start
+sized-start : Sized start
 unfolding start
 sized-start = record { sites = refl; objects = refl; passages = refl; visits = refl; messages = refl }
 
@@ -69,8 +69,11 @@ pub sized-from : (t : Tables) (ss : List Step) → Sized t → Sized (runOf t ss
 sized-from t ss z =
     run-holds Sized (λ u s k e. sized-head u s k) (λ trip slot o l k. sized-turn trip slot o k) t ss z
 
-pub sized-run : (ss : List Step) → Sized (runOf start ss)
-sized-run ss = sized-from start ss sized-start
+pub sized-started : {t₀ : Tables} → Started t₀ → Sized t₀
+sized-started fresh = rw (fresh .empty) sized-start
+
+pub sized-run : {t₀ : Tables} → Started t₀ → (ss : List Step) → Sized (runOf t₀ ss)
+sized-run {t₀} fresh ss = sized-from t₀ ss (sized-started fresh)
 
 -- ---- of tables of these lengths: what holds once a step's own store is made, and through each turn, holds after the step
 
