@@ -13,15 +13,15 @@ use Rattle.rules.specs.LoopsLaws.{not-false}
 use Rattle.rules.specs.Tables.{siteAt, objectAt, passageAt, visitAt, messageAt, bankAt, objectSite, slotOf, pastObject, noMessage}
 use Rattle.rules.specs.Ranges.{inRange}
 use Rattle.rules.specs.Answers.{isAccepted, firstOf, settleOf}
-use Rattle.rules.specs.AnswersLaws.{accepted-fine}
 use Rattle.rules.specs.Parts.{nextClock, deliveryClock, countSent, countReceived, isHeldByOther, taken, operated, plainMessage}
 use Rattle.rules.specs.Checks.{badSite, badHandle, badMessage}
-use Rattle.rules.specs.Calls.{callSite, isSentOut, invokeChecks, callOf, invoked, invokeOf, mailClock, emptyOf, calledVisit, calledObject, callChecks, called, deliverCallOf, deliverPhaseOneOf, deliverPhaseTwoOf, deliverAnswerOf, deliverBodyOf}
+use Rattle.rules.specs.Calls.{callSite, isSentOut, invokeChecks, callOf, invoked, invokeOf, mailClock, calledVisit, calledObject, callChecks, called, deliverCallOf, deliverBodyOf}
 use Rattle.rules.specs.Machine.{lookOf, bodyBank, placesOf, seenOf, decideOf, stepOf}
 use Rattle.rules.specs.StoredLaws.{Sized}
 use Rattle.rules.specs.StoredObjects.{seen-object}
 use Rattle.rules.specs.RangesLaws.{neither}
 use Rattle.rules.specs.RangesFits.{CallFits, call-says, MessageFits}
+use Rattle.rules.specs.SettledLaws.{delivered-named}
 use Rattle.rules.specs.EffectsLaws.{OnlyVisit, OnlyMessage, OnlyObject, ClockMoves, accepted-in-range, accepted-decided, Done, done-at, only-visit, only-message, only-object, passages-stay, objects-stay, clock-moves}
 use Rattle.rules.specs.EffectsPlaces.{message-fits, given-places, mail-places, InUse, in-use, NewMessage, new-message}
 
@@ -90,18 +90,10 @@ module _ (t : Tables) (h site write object width v : ℕ) (z : Sized t)
 
 -- ---- 11. deliver
 
-delivered-below : (b : Body) (m v : ℕ) (seen : Seen) → deliverBodyOf b m seen .answer ≡ Answer.Accepted v → badMessage m ≡ false
-unfolding deliverBodyOf emptyOf deliverCallOf deliverPhaseOneOf deliverPhaseTwoOf deliverAnswerOf
-delivered-below Body.Empty m v seen a = accepted-fine _ _ (ap isAccepted a) .fields
-delivered-below (Body.Call c) m v seen a = accepted-fine _ _ (ap isAccepted a) .fields
-delivered-below (Body.PhaseOne n asked) m v seen a = accepted-fine _ _ (ap isAccepted a) .fields
-delivered-below (Body.PhaseTwo n told) m v seen a = accepted-fine _ _ (ap isAccepted a) .fields
-delivered-below (Body.Answer n received q) m v seen a = accepted-fine _ _ (ap isAccepted a) .fields
-
 pub deliver-below : (t : Tables) (m v : ℕ) → stepOf t (Step.Deliver m) .answer ≡ Answer.Accepted v → m < 32
 unfolding decideOf
 deliver-below t m v a =
-    let e : badMessage m ≡ false = delivered-below _ m v _ (accepted-decided t (Step.Deliver m) v refl a) in
+    let e : badMessage m ≡ false = delivered-named _ m _ (ap isAccepted (accepted-decided t (Step.Deliver m) v refl a)) in
     omega (arith, ltb-false)
 
 -- where a message x with this body is delivered

@@ -19,6 +19,7 @@ pub mod Machine
 pub mod StoredLaws
 pub mod Sane
 pub mod Record
+pub mod SettledLaws
 pub mod RefusedLaws
 pub mod TwentyLaws
 pub mod RecordLaws

@@ -17,7 +17,7 @@ use Rattle.rules.specs.Stations.{tickOf, isSwept, sweptSlot, crashedSlot}
 use Rattle.rules.specs.Machine.{lookOf, placesOf, seenOf, decideOf, stored, headOf, turnOf, stepOf, tripPlaces, turnSeen}
 use Rattle.rules.specs.StoredLaws.{Sized, Placed, site-after-stored, site-after-stored-other, turn-stored}
 use Rattle.rules.specs.RangesLaws.{placed-places, placed-trip}
-use Rattle.rules.specs.RefusedLaws.{decided-refused}
+use Rattle.rules.specs.SettledLaws.{decided-refused}
 use Rattle.rules.specs.Runs.{runOf, actsAtSite}
 use Rattle.rules.specs.Views.{settled-accepted, Clock, deedOf}
 use Rattle.runs.specs.Types.{Tables, Step, Places, Seen, Outcome, Found}
