@@ -1,6 +1,7 @@
 -- How a law is shown over a step and along a run, and what is shown first: lengths, clocks, and that what passrun runs is a run.
 pub mod Plain
 pub mod Put
+pub mod Says
 pub mod Steps
 pub mod Sizes
 pub mod Clocks

@@ -12,9 +12,10 @@ use Rattle.rules.specs.Rounds.{closeChecks, roundTold, closedPassage, closeDone
 use Rattle.rules.specs.Machine.{lookOf, placesOf, seenOf}
 use Rattle.rules.specs.Ranges.{inRange, phaseFits}
 use Rattle.runs.specs.Types.{Kind, Phase, Visit, Tables, Step}
+use Rattle.runs.specs.Walk.Says.{isBinding}
 use Rattle.runs.specs.Walk.Plain.{when-true, when-false}
 use Rattle.runs.specs.Times.View.{View, Ledger, viewOf, noted}
-use Rattle.runs.specs.Times.Clauses.{isBinding, Holds}
+use Rattle.runs.specs.Times.Clauses.{Holds}
 use Rattle.runs.specs.Kept.Visit.{withVisit, withLast}
 use Rattle.runs.specs.Kept.Times.{told-refresh-kept, told-terminate-kept}
 use Rattle.runs.specs.Kept.Closed.{closedView, closed-kept, closed-is-quiet, closed-largest}

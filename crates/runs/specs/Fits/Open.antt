@@ -13,9 +13,10 @@ use Rattle.rules.specs.Rounds.{openChecks, openedPassage, openDone}
 use Rattle.rules.specs.Machine.{looksHome, placesOf, seenOf}
 use Rattle.rules.specs.declared.looking.MailAt.{MailAt}
 use Rattle.runs.specs.Types.{Kind, Status, Tables}
+use Rattle.runs.specs.Walk.Says.{isRefresh, isPrepare}
 use Rattle.runs.specs.Walk.Put.{put, put-same}
 use Rattle.runs.specs.Times.View.{View, Ledger, viewOf, noted}
-use Rattle.runs.specs.Times.Clauses.{isRefresh, Holds}
+use Rattle.runs.specs.Times.Clauses.{Holds}
 use Rattle.runs.specs.Kept.Open.{opened-kept}
 use Rattle.runs.specs.Kept.Times.{asked-says}
 use Rattle.runs.specs.Times.Store.{leftView, Fitting, noted-there}

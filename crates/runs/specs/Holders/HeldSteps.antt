@@ -27,10 +27,10 @@ use Rattle.rules.specs.Machine.{seenOf, bodyBank, turnSeen}
 use Rattle.rules.specs.RangesLaws.{set-keeps-at}
 use Rattle.rules.specs.StoredObjects.{each-at}
 use Rattle.runs.specs.Types.{Site, Kind, Visit, Call, Asked, Told, Body, Message, Tables, Places, Seen}
+use Rattle.runs.specs.Walk.Says.{bodyKind, calledOf}
 use Rattle.runs.specs.Kept.Times.{asked-says}
 use Rattle.runs.specs.Holders.Banks.{let-go-holder, taken-holder}
 use Rattle.runs.specs.Holders.HeldStore.{GoesHome, Held, Keeps}
-use Rattle.runs.specs.Times.Clauses.{bodyKind}
 
 abbrev isCall : Body → Bool
 isCall b = eqb (bodyKind b) 1
@@ -48,14 +48,6 @@ crashed-there homeless clock v = ⊎-elim (λ b. rw b) (λ b. rw b) (either (hom
 -- an answer is no call
 reply-no-call : (v : Visit) (clock : ℕ) (seen : Seen) → isCall (replyOf v clock seen .body) ≡ false
 reply-no-call v clock seen = ⊎-elim (λ e. rw e) (λ e. rw e) (either (atHome seen))
-
--- the object of a call
-abbrev objectOf : Body → ℕ
-objectOf Body.Empty = 0
-objectOf (Body.Call c) = c .object
-objectOf (Body.PhaseOne n a) = 0
-objectOf (Body.PhaseTwo n d) = 0
-objectOf (Body.Answer n r q) = 0
 
 module _ (t : Tables) (at : Places) (k : Held t) where
   -- the message that was seen
@@ -198,7 +190,7 @@ module _ (t : Tables) (at : Places) (k : Held t) where
   invoke-keeps h site write object value place =
       settled-keeps _ _ _ λ f.
       let o : object ≤ 31 = ltb-false 31 object (object-says (f .fields)) in
-      stays _ refl (λ e. e) (λ c e. sent c (ap objectOf e) o)
+      stays _ refl (λ e. e) (λ c e. sent c (ap calledOf e) o)
     where
       object-says : badCall h site write object value ≡ false → ltb 31 object ≡ false
       object-says e =

@@ -10,8 +10,9 @@ use Rattle.rules.specs.LoopsLaws.{either, most-at}
 use Rattle.rules.specs.Parts.{isFree, isOver, isPhaseOne, withPhase, figuresAt, hasAnswered, ifAnswered, isClosed, largestQuiesce, toldOf, toldStatus}
 use Rattle.rules.specs.Rounds.{roundTold, closedPassage}
 use Rattle.runs.specs.Types.{Kind, Phase, Status, Call, Told, Body}
+use Rattle.runs.specs.Walk.Says.{isRefresh, isBinding}
 use Rattle.runs.specs.Times.View.{View, Ledger}
-use Rattle.runs.specs.Times.Clauses.{isRefresh, isBinding, Below, QuietMail, Quiet, Holds}
+use Rattle.runs.specs.Times.Clauses.{Below, QuietMail, Quiet, Holds}
 use Rattle.runs.specs.Times.ClausesLaws.{binding-no-refresh, call-says, late-says}
 use Rattle.runs.specs.Kept.Round.{restated-kept}
 use Rattle.runs.specs.Kept.Closing.{closing-refresh, closing-making, closing-binding, closing-no-call}

@@ -11,9 +11,10 @@ use Rattle.rules.specs.Loops.{oneIf, sumUpTo}
 use Rattle.rules.specs.LoopsLaws.{either, every-at, sum-at, below-or-last}
 use Rattle.rules.specs.Parts.{isEmpty, figuresAt, hasAnswered, ifAnswered, sentTo, receivedAt, isClosed}
 use Rattle.runs.specs.Types.{Phase, Round, Call, Body}
+use Rattle.runs.specs.Walk.Says.{isRefresh, isBinding}
 use Rattle.runs.specs.Times.View.{View, Ledger}
 use Rattle.runs.specs.Walk.Put.{same-or-other}
-use Rattle.runs.specs.Times.Clauses.{isRefresh, isBinding, EdgeFine, isCallTo, callsTo, receivedBy, sentBy, Holds}
+use Rattle.runs.specs.Times.Clauses.{EdgeFine, isCallTo, callsTo, receivedBy, sentBy, Holds}
 use Rattle.runs.specs.Times.ClausesLaws.{call-says}
 use Rattle.runs.specs.Kept.Shrunk.{sum-le}
 

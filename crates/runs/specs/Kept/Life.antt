@@ -9,9 +9,10 @@ use Rattle.rules.specs.Tables.{noRound}
 use Rattle.rules.specs.Parts.{isFree, isEmpty, isPhaseOne, isPhaseTwo, newVisit}
 use Rattle.rules.specs.Passages.{begunPassage}
 use Rattle.runs.specs.Types.{Round, Status, Visit, Body}
+use Rattle.runs.specs.Walk.Says.{isRefresh}
 use Rattle.runs.specs.Walk.Put.{put, put-same, put-other, put-all, same-or-other}
 use Rattle.runs.specs.Times.View.{View, Ledger, noLedger, firstSeen}
-use Rattle.runs.specs.Times.Clauses.{isRefresh, Below, SiteFine, PassageFine, callsTo, receivedBy, Holds}
+use Rattle.runs.specs.Times.Clauses.{Below, SiteFine, PassageFine, callsTo, receivedBy, Holds}
 use Rattle.runs.specs.Times.ClausesLaws.{empty-clause}
 use Rattle.runs.specs.Kept.Masks.{nobody-answers}
 

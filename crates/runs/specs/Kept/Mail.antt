@@ -9,9 +9,10 @@ use Rattle.rules.specs.Loops.{oneIf}
 use Rattle.rules.specs.Parts.{hasAnswered, toldOf, largestQuiesce, plainMessage, answerMessage}
 use Rattle.rules.specs.Rounds.{askBody, tellBody}
 use Rattle.runs.specs.Types.{Figures, Kind, Phase, Status, Call, Body, Message}
+use Rattle.runs.specs.Walk.Says.{isRefresh, isBinding, bodyKind}
 use Rattle.runs.specs.Walk.Put.{put, put-all}
 use Rattle.runs.specs.Times.View.{View, Ledger}
-use Rattle.runs.specs.Times.Clauses.{isRefresh, isBinding, Below, QuietMail, Quiet, InAnswer, Figure, FigureFine, EdgeFine, SiteFine, ToldFine, BodyFine, Posted, isCallTo, callsTo, Balanced, Holds, bodyKind}
+use Rattle.runs.specs.Times.Clauses.{Below, QuietMail, Quiet, InAnswer, Figure, FigureFine, EdgeFine, SiteFine, ToldFine, BodyFine, Posted, isCallTo, callsTo, Balanced, Holds}
 use Rattle.runs.specs.Times.ClausesLaws.{one-quiet, two-quiet, answer-quiet, one-clause, two-clause, answer-clause}
 use Rattle.runs.specs.Kept.Shrunk.{around, sum-le, body-around, passage-around, site-around}
 

@@ -7,9 +7,10 @@ use mathlib.Core.Bool.{true, false, true≢false, false≢true}
 use Rattle.rules.specs.Parts.{isOver, isPhaseOne, isPhaseTwo, figuresOf, hasAnswered, withAnswer, openedRound, askedOf, askedVisit, askedStatus, withPhase}
 use Rattle.rules.specs.Rounds.{openedPassage}
 use Rattle.runs.specs.Types.{Figures, Kind, Phase, Status, Visit, Told, Body, Message}
+use Rattle.runs.specs.Walk.Says.{isBinding}
 use Rattle.runs.specs.Walk.Put.{put, put-same}
 use Rattle.runs.specs.Times.View.{View, Ledger, relast}
-use Rattle.runs.specs.Times.Clauses.{isBinding, Below, Quiet, Figure, FigureFine, EdgeFine, SiteFine, ToldFine, BodyFine, Holds}
+use Rattle.runs.specs.Times.Clauses.{Below, Quiet, Figure, FigureFine, EdgeFine, SiteFine, ToldFine, BodyFine, Holds}
 use Rattle.runs.specs.Kept.Masks.{nobody-answers, answered-here}
 use Rattle.runs.specs.Kept.Round.{alikeHere, restated-kept, answer-kept}
 use Rattle.runs.specs.Kept.Visit.{withVisit, withLast}

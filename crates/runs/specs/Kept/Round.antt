@@ -10,9 +10,10 @@ use lib.Seq.{getD-set-same, getD-set-other}
 use Rattle.rules.specs.Tables.{pastFigures}
 use Rattle.rules.specs.Parts.{isFree, isOver, isPhaseOne, isPhaseTwo, withPhase, figuresAt, hasAnswered, withAnswer, largestQuiesce}
 use Rattle.runs.specs.Types.{Figures, Kind, Phase, Status}
+use Rattle.runs.specs.Walk.Says.{isRefresh, isBinding}
 use Rattle.runs.specs.Walk.Put.{same-or-other}
 use Rattle.runs.specs.Times.View.{View, Ledger}
-use Rattle.runs.specs.Times.Clauses.{isRefresh, isBinding, Below, Quiet, Kept, FigureFine, EdgeFine, Holds}
+use Rattle.runs.specs.Times.Clauses.{Below, Quiet, Kept, FigureFine, EdgeFine, Holds}
 use Rattle.runs.specs.Kept.Masks.{answered-here, answered-other, mask-lt}
 use Rattle.runs.specs.Kept.Same.{alike, alikeView, body-kept, site-kept}
 

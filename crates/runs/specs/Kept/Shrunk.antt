@@ -8,10 +8,11 @@ use Rattle.rules.specs.Loops.{oneIf, sumUpTo}
 use Rattle.rules.specs.LoopsLaws.{either}
 use Rattle.rules.specs.Parts.{isEmpty}
 use Rattle.runs.specs.Types.{Figures, Visit, Body, Message}
+use Rattle.runs.specs.Walk.Says.{bodyKind}
 use Rattle.runs.specs.Times.View.{View, Ledger}
 use Rattle.runs.specs.Kept.Same.{body-kept, site-kept}
 use Rattle.runs.specs.Times.ClausesLaws.{empty-clause, empty-quiet}
-use Rattle.runs.specs.Times.Clauses.{Below, Quiet, Figure, FigureFine, EdgeFine, SiteFine, BodyFine, PassageFine, FreeFine, isCallTo, callsTo, Balanced, Holds, bodyKind}
+use Rattle.runs.specs.Times.Clauses.{Below, Quiet, Figure, FigureFine, EdgeFine, SiteFine, BodyFine, PassageFine, FreeFine, isCallTo, callsTo, Balanced, Holds}
 
 -- a sum of smaller numbers is smaller
 pub sum-le : (f g : ℕ → ℕ) (n : ℕ) → ((i : ℕ) → f i ≤ g i) → sumUpTo f n ≤ sumUpTo g n

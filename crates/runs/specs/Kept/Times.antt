@@ -6,8 +6,9 @@ use mathlib.Core.Logic.{_≢_}
 use mathlib.Core.Bool.{Bool, true, false≢true}
 use Rattle.rules.specs.Parts.{quieted, withTimes, askedVisit, askedOf, largestQuiesce}
 use Rattle.runs.specs.Types.{Kind, Visit, Asked, Told, Body}
+use Rattle.runs.specs.Walk.Says.{isBinding}
 use Rattle.runs.specs.Times.View.{View, Ledger}
-use Rattle.runs.specs.Times.Clauses.{isBinding, Below, Quiet, SiteFine, Holds}
+use Rattle.runs.specs.Times.Clauses.{Below, Quiet, SiteFine, Holds}
 use Rattle.runs.specs.Times.ClausesLaws.{call-says, late-says, terminate-says}
 use Rattle.runs.specs.Kept.Visit.{withVisit, withLast, revised-kept}
 

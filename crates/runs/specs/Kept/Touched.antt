@@ -13,9 +13,10 @@ use Rattle.rules.specs.Loops.{oneIf, sumUpTo}
 use Rattle.rules.specs.LoopsLaws.{either, sum-same}
 use Rattle.rules.specs.Parts.{countSent, countReceived}
 use Rattle.runs.specs.Types.{Figures, Status, Visit, Call, Told, Body, Message}
+use Rattle.runs.specs.Walk.Says.{isBinding}
 use Rattle.runs.specs.Walk.Put.{put, put-same, put-other, put-all, same-or-other, sum-put}
 use Rattle.runs.specs.Times.View.{View, Past, Ledger, relast}
-use Rattle.runs.specs.Times.Clauses.{isBinding, Below, Quiet, InAnswer, Figure, FigureFine, EdgeFine, SiteFine, CallFine, ToldFine, BodyFine, Posted, PassageFine, isCallTo, callsTo, receivedBy, sentBy, Balanced, Holds}
+use Rattle.runs.specs.Times.Clauses.{Below, Quiet, InAnswer, Figure, FigureFine, EdgeFine, SiteFine, CallFine, ToldFine, BodyFine, Posted, PassageFine, isCallTo, callsTo, receivedBy, sentBy, Balanced, Holds}
 use Rattle.runs.specs.Kept.Shrunk.{around}
 
 -- a sum over places with one place changed

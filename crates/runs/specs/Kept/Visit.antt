@@ -8,9 +8,10 @@ use Rattle.rules.specs.Loops.{sumUpTo}
 use Rattle.rules.specs.LoopsLaws.{sum-same}
 use Rattle.rules.specs.Parts.{largestQuiesce}
 use Rattle.runs.specs.Types.{Figures, Kind, Phase, Visit, Call, Told, Body}
+use Rattle.runs.specs.Walk.Says.{isBinding}
 use Rattle.runs.specs.Walk.Put.{put, put-same, put-other, put-all, same-or-other}
 use Rattle.runs.specs.Times.View.{View, Ledger, relast}
-use Rattle.runs.specs.Times.Clauses.{isBinding, Below, QuietMail, Quiet, FigureFine, EdgeFine, SiteFine, BodyFine, receivedBy, sentBy, sentFigures, Balanced, Holds, ToldFine}
+use Rattle.runs.specs.Times.Clauses.{Below, QuietMail, Quiet, FigureFine, EdgeFine, SiteFine, BodyFine, receivedBy, sentBy, sentFigures, Balanced, Holds, ToldFine}
 
 -- the view with this visit at site a
 abbrev pub withVisit : View → ℕ → Visit → View

@@ -13,6 +13,7 @@ use Rattle.rules.specs.Machine.{headOf, isMessageOf, stepOf}
 use Rattle.rules.specs.Runs.{Started, runOf, runRecordsOf, historyOf}
 use Rattle.rules.specs.declared.tables.Holder.{Holder}
 use Rattle.runs.specs.Types.{Status, Told, Body, Message, Tables, Step}
+use Rattle.runs.specs.Walk.Says.{toldQuiesce, toldTime, bodyLatest, bodyAll}
 use Rattle.runs.specs.Times.View.{viewOf}
 use Rattle.runs.specs.Walk.Steps.{ghostRun, head-accepted, stepsOf, records-are-steps}
 use Rattle.runs.specs.Walk.Sizes.{sized-started, sized-run, sized-from, sized-step}
@@ -20,7 +21,7 @@ use Rattle.runs.specs.Holders.HeldStore.{Held}
 use Rattle.runs.specs.Holders.Holders.{held-run, held-step, held-from}
 use Rattle.runs.specs.Walk.Counted.{steps-drive}
 use Rattle.runs.specs.Orphans.Swept.{Ripe, swept-away, swept-clock}
-use Rattle.runs.specs.Orphans.Orphans.{beganCommit, isRetired, stepsAt, bodyLatest, bodyAll, mailLatest, latest, latestOfAll, toldQuiesce, toldTime}
+use Rattle.runs.specs.Orphans.Orphans.{beganCommit, isRetired, stepsAt, mailLatest, latest, latestOfAll}
 use Rattle.runs.specs.Orphans.Watch.{Known, Plain, Bounded, Watch}
 use Rattle.runs.specs.Orphans.WatchStore.{knownHead, knownTurn}
 use Rattle.runs.specs.Orphans.WatchSteps.{knownNothing, watch-head, watch-run, watch-started}

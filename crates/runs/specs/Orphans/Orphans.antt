@@ -8,7 +8,8 @@ use Rattle.rules.specs.Tables.{visitAt, messageAt, slotOf}
 use Rattle.rules.specs.Record.{flatOf, isStep}
 use Rattle.rules.specs.Runs.{Entry}
 use Rattle.rules.specs.Machine.{isMessageOf}
-use Rattle.runs.specs.Types.{Visit, Asked, Told, Body, Message, Tables, Step}
+use Rattle.runs.specs.Types.{Visit, Body, Message, Tables, Step}
+use Rattle.runs.specs.Walk.Says.{bodyLatest, bodyAll}
 
 -- ---- the past, from the list of accepted steps
 
@@ -44,43 +45,6 @@ stepsAt s (e ∷ es) = oneIf (e .acted && eqb (e .places .site) s) + stepsAt s e
 -- of a visit that is there, the later of its two times
 abbrev pub visitLatest : Visit → ℕ
 visitLatest v = cond (v .there) (max (v .quiesce) (v .release)) 0
-
--- a commit's word
-abbrev pub tellsPrepare : Told → Bool
-tellsPrepare (Told.Refresh q) = false
-tellsPrepare (Told.Terminate m) = false
-tellsPrepare Told.Prepare = true
-
--- the times that a message may still bring to a visit: those of a call, the new release of a refresh's phase 1, the new quiesce of its phase 2
-abbrev pub askedRelease : Asked → ℕ
-askedRelease (Asked.Refresh r) = r
-askedRelease Asked.Terminate = 0
-askedRelease Asked.Prepare = 0
-
-abbrev pub toldQuiesce : Told → ℕ
-toldQuiesce (Told.Refresh q) = q
-toldQuiesce (Told.Terminate m) = 0
-toldQuiesce Told.Prepare = 0
-
-abbrev pub bodyLatest : Body → ℕ
-bodyLatest Body.Empty = 0
-bodyLatest (Body.Call c) = max (c .quiesce) (c .release)
-bodyLatest (Body.PhaseOne n asked) = askedRelease asked
-bodyLatest (Body.PhaseTwo n told) = toldQuiesce told
-bodyLatest (Body.Answer n received q) = 0
-
--- every quiesce or release time in a message: an answer's quiesce time and a terminate's M too
-abbrev pub toldTime : Told → ℕ
-toldTime (Told.Refresh q) = q
-toldTime (Told.Terminate m) = m
-toldTime Told.Prepare = 0
-
-abbrev pub bodyAll : Body → ℕ
-bodyAll Body.Empty = 0
-bodyAll (Body.Call c) = max (c .quiesce) (c .release)
-bodyAll (Body.PhaseOne n asked) = askedRelease asked
-bodyAll (Body.PhaseTwo n told) = toldTime told
-bodyAll (Body.Answer n received q) = q
 
 -- of a message of this slot, its latest time by either reading
 abbrev pub mailLatest : (Body → ℕ) → ℕ → Message → ℕ

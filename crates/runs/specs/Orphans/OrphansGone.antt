@@ -14,13 +14,14 @@ use Rattle.rules.specs.Machine.{isMessageOf, stepOf}
 use Rattle.rules.specs.Runs.{Started, runOf, historyOf}
 use Rattle.rules.specs.declared.looking.Trip.{Trip}
 use Rattle.runs.specs.Types.{Status, Visit, Tables, Step, Outcome}
+use Rattle.runs.specs.Walk.Says.{bodyLatest}
 use Rattle.runs.specs.Times.View.{viewOf}
 use Rattle.runs.specs.Times.Clauses.{Holds}
 use Rattle.runs.specs.Walk.Steps.{ghostTurns, ghostStep, ghostRun, ghost-accepted, ghost-refused}
 use Rattle.runs.specs.Walk.Counted.{history-accepted, history-refused}
 use Rattle.runs.specs.Times.Ledgers.{ledgersOf}
 use Rattle.runs.specs.Times.RunLaws.{holds-run}
-use Rattle.runs.specs.Orphans.Orphans.{beganCommit, retires, isRetired, visitLatest, bodyLatest, mailLatest, latest}
+use Rattle.runs.specs.Orphans.Orphans.{beganCommit, retires, isRetired, visitLatest, mailLatest, latest}
 use Rattle.runs.specs.Orphans.Watch.{Known, Bounded, BoundedVisit, BoundedBody}
 use Rattle.runs.specs.Orphans.WatchStore.{knownHead, knownTurn}
 

@@ -23,11 +23,11 @@ use Rattle.rules.specs.StoredLaws.{Sized, Placed, turn-stored}
 use Rattle.rules.specs.StoredObjects.{seen-object-at, object-after-stored, object-after-stored-other, each-at}
 use Rattle.rules.specs.Views.{settled, Objects, Mail, mailOf, deedOf}
 use Rattle.runs.specs.Types.{Kind, Call, Told, Body, Tables, Step, Outcome, Places, Seen, Found}
+use Rattle.runs.specs.Walk.Says.{isPrepare, tellsPrepare, carriesCommit}
 use Rattle.runs.specs.Walk.Put.{same-or-other}
 use Rattle.runs.specs.Walk.Sizes.{sized-step-has}
 use Rattle.runs.specs.Times.Ledgers.{seenAt}
-use Rattle.runs.specs.Orphans.Orphans.{tellsPrepare}
-use Rattle.runs.specs.Orphans.Rests.{isPrepare, carriesCommit, commits, Stands, Turned, stands-after-turned, standing-after-call, stands-after-freed, standing-after-restored, unheld-after-restored, set-at}
+use Rattle.runs.specs.Orphans.Rests.{commits, Stands, Turned, stands-after-turned, standing-after-call, stands-after-freed, standing-after-restored, unheld-after-restored, set-at}
 
 -- ---- the records that a step leaves
 

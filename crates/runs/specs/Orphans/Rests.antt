@@ -13,8 +13,8 @@ use Rattle.rules.specs.declared.tables.Object.{Object}
 use Rattle.rules.specs.Tables.{objectAt}
 use Rattle.rules.specs.Parts.{isUnheld, taken, operated, unheld, freed, restored}
 use Rattle.rules.specs.Machine.{stepOf}
-use Rattle.runs.specs.Orphans.Orphans.{tellsPrepare}
-use Rattle.runs.specs.Types.{Kind, Call, Body, Tables, Step, Seen}
+use Rattle.runs.specs.Types.{Call, Tables, Step, Seen}
+use Rattle.runs.specs.Walk.Says.{isPrepare, carriesCommit}
 
 -- ---- the width at rest, along a run
 
@@ -40,19 +40,6 @@ HeldThrough t [] k = Unit {0}
 HeldThrough t (s ∷ ss) k = (isAtRest (stepOf t s .tables) k ≡ false) × HeldThrough (stepOf t s .tables) ss k
 
 -- ---- the steps that commit: phase 2 of a prepare, at home by close, elsewhere by a delivered message
-
-abbrev pub isPrepare : Kind → Bool
-isPrepare Kind.None = false
-isPrepare (Kind.Refresh q r) = false
-isPrepare Kind.Terminate = false
-isPrepare Kind.Prepare = true
-
-abbrev pub carriesCommit : Body → Bool
-carriesCommit Body.Empty = false
-carriesCommit (Body.Call c) = false
-carriesCommit (Body.PhaseOne n asked) = false
-carriesCommit (Body.PhaseTwo n told) = tellsPrepare told
-carriesCommit (Body.Answer n received q) = false
 
 -- by the step and what it sees: a close (code 8) of a commit round, or a delivery (code 11) of its word
 abbrev pub commits : Step → Seen → Bool

@@ -3,8 +3,8 @@ use Prim.Native.Nat.{ℕ, _≤_}
 use mathlib.Core.Path.{_≡_}
 use mathlib.Core.Logic.{_⊎_}
 use mathlib.Core.Bool.{Bool, true, false}
-use Rattle.runs.specs.Types.{Kind, Phase, Status, Visit, Asked, Body}
-use Rattle.runs.specs.Orphans.Orphans.{bodyLatest, tellsPrepare}
+use Rattle.runs.specs.Types.{Kind, Phase, Status, Visit, Body}
+use Rattle.runs.specs.Walk.Says.{bodyLatest, ofCommit}
 use Rattle.runs.specs.Times.View.{View}
 
 -- what is known of the run so far: whether a commit round has begun since the begin, whether the passage is being watched
@@ -31,19 +31,6 @@ PlainKind Kind.Prepare = ⊥
 
 abbrev pub PlainVisit : Visit → Type 0
 PlainVisit v = v .there ≡ true → v .prepared ≡ false
-
--- a message of a commit round, of either phase
-abbrev pub asksPrepare : Asked → Bool
-asksPrepare (Asked.Refresh r) = false
-asksPrepare Asked.Terminate = false
-asksPrepare Asked.Prepare = true
-
-abbrev pub ofCommit : Body → Bool
-ofCommit Body.Empty = false
-ofCommit (Body.Call c) = false
-ofCommit (Body.PhaseOne n asked) = asksPrepare asked
-ofCommit (Body.PhaseTwo n told) = tellsPrepare told
-ofCommit (Body.Answer n received q) = false
 
 abbrev pub PlainBody : Body → Type 0
 PlainBody b = ofCommit b ≡ false

@@ -6,11 +6,12 @@ use mathlib.Core.Logic.{⊎-elim, _⊎_, inl, inr}
 use mathlib.Core.Bool.{true, false, true≢false, false≢true}
 use Rattle.rules.specs.Parts.{isFree, isRunning, isActive}
 use Rattle.runs.specs.Types.{Kind, Phase, Status, Passage, Visit, Body, Message}
+use Rattle.runs.specs.Walk.Says.{ofCommit}
 use Rattle.runs.specs.Walk.Put.{put, put-all}
 use Rattle.runs.specs.Times.View.{View}
 use Rattle.runs.specs.Kept.Shrunk.{around}
 use Rattle.runs.specs.Times.Store.{leftView}
-use Rattle.runs.specs.Orphans.Watch.{Known, PlainStatus, PlainKind, PlainVisit, PlainBody, Plain, BoundedVisit, BoundedBody, Bounded, Watch, ofCommit}
+use Rattle.runs.specs.Orphans.Watch.{Known, PlainStatus, PlainKind, PlainVisit, PlainBody, Plain, BoundedVisit, BoundedBody, Bounded, Watch}
 
 -- ---- what is known may grow weaker: no commit round and the watch only where they were known before
 

@@ -9,8 +9,8 @@ use Rattle.rules.specs.Parts.{isActive, largestQuiesce, askedOf, toldOf}
 use Rattle.rules.specs.Rounds.{askBody, tellBody}
 use Rattle.rules.specs.Machine.{isMessageOf}
 use Rattle.runs.specs.Types.{Kind, Phase, Status, Asked, Body, Message}
+use Rattle.runs.specs.Walk.Says.{isRefresh}
 use Rattle.runs.specs.Times.View.{View, mailOf}
-use Rattle.runs.specs.Times.Clauses.{isRefresh}
 use Rattle.runs.specs.Orphans.Watch.{PlainKind, Plain, Bounded}
 use Rattle.runs.specs.Orphans.WatchKept.{Ending, BodyKeeps, aborted-active}
 

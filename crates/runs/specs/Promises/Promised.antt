@@ -25,10 +25,9 @@ use Rattle.rules.specs.Record.{flatOf, isStep}
 use Rattle.rules.specs.Runs.{Started, runOf}
 use Rattle.rules.specs.Views.{settled, Marks, Mail, mailOf, deedOf}
 use Rattle.runs.specs.Types.{Kind, Visit, Told, Body, Message, Tables, Step, Places, Seen, Outcome, Found}
+use Rattle.runs.specs.Walk.Says.{isPrepare, tellsPrepare, carriesCommit}
 use Rattle.runs.specs.Walk.Put.{same-or-other}
 use Rattle.runs.specs.Kept.Times.{asked-says}
-use Rattle.runs.specs.Orphans.Rests.{isPrepare, carriesCommit}
-use Rattle.runs.specs.Orphans.Orphans.{tellsPrepare}
 use Rattle.runs.specs.Walk.Sizes.{sized-run, sized-step-has}
 
 -- ---- definitions

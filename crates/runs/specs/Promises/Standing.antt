@@ -26,30 +26,16 @@ use Rattle.rules.specs.Record.{flatOf, isStep}
 use Rattle.rules.specs.Runs.{Started, runOf}
 use Rattle.rules.specs.Views.{settled, Marks, Mail, mailOf, Goes, deedOf}
 use Rattle.runs.specs.Types.{Kind, Passage, Visit, Asked, Told, Body, Message, Tables, Step, Places, Seen, Outcome, Found}
+use Rattle.runs.specs.Walk.Says.{isPrepare, isTerminate, tellsPrepare, carriesCommit, asksTerminate}
 use Rattle.runs.specs.Walk.Put.{same-or-other}
 use Rattle.runs.specs.Fits.Life.{free-says}
 use Rattle.runs.specs.Walk.Steps.{run-on}
 use Rattle.runs.specs.Walk.Sizes.{sized-run, sized-step-has}
 use Rattle.runs.specs.Times.RunLaws.{free-no-visit}
-use Rattle.runs.specs.Orphans.Rests.{isPrepare, carriesCommit}
 use Rattle.runs.specs.Promises.Promised.{Promised, isWord, stored-has, prepared-not-swept, word-here}
-use Rattle.runs.specs.Orphans.Orphans.{tellsPrepare}
 use Rattle.runs.specs.Promises.HeldFast.{let-go-with-visit}
 
 -- ---- definitions
-
--- a message that asks to terminate
-abbrev pub isTerminate : Asked → Bool
-isTerminate (Asked.Refresh r) = false
-isTerminate Asked.Terminate = true
-isTerminate Asked.Prepare = false
-
-abbrev pub asksTerminate : Body → Bool
-asksTerminate Body.Empty = false
-asksTerminate (Body.Call c) = false
-asksTerminate (Body.PhaseOne n asked) = isTerminate asked
-asksTerminate (Body.PhaseTwo n told) = false
-asksTerminate (Body.Answer n r q) = false
 
 -- does the step let the station off its promise to this slot? By the commit's last word (a close, code 8, or a delivery, code 11); by a terminate's first (code 5, or a delivery);
 -- and at home by an abort (code 10), or by a crash (code 14) while the passage runs

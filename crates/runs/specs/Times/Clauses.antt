@@ -9,28 +9,8 @@ use Rattle.rules.specs.Loops.{oneIf, sumUpTo}
 use Rattle.rules.specs.Tables.{noRound}
 use Rattle.rules.specs.Parts.{isOver, isEmpty, figuresAt, hasAnswered, largestQuiesce, askedOf}
 use Rattle.runs.specs.Types.{Figures, Kind, Phase, Round, Status, Call, Asked, Told, Body, Message}
+use Rattle.runs.specs.Walk.Says.{isRefresh, isBinding, bodyKind}
 use Rattle.runs.specs.Times.View.{View, Past, Ledger}
-
-abbrev pub isRefresh : Kind → Bool
-isRefresh Kind.None = false
-isRefresh (Kind.Refresh q r) = true
-isRefresh Kind.Terminate = false
-isRefresh Kind.Prepare = false
-
--- a round that binds: a terminate or a prepare
-abbrev pub isBinding : Kind → Bool
-isBinding Kind.None = false
-isBinding (Kind.Refresh q r) = false
-isBinding Kind.Terminate = true
-isBinding Kind.Prepare = true
-
--- what a message is: 0 nothing, 1 a call, 2 and 3 a round's two phases, 4 an answer
-abbrev pub bodyKind : Body → ℕ
-bodyKind Body.Empty = 0
-bodyKind (Body.Call c) = 1
-bodyKind (Body.PhaseOne n a) = 2
-bodyKind (Body.PhaseTwo n d) = 3
-bodyKind (Body.Answer n received q) = 4
 
 -- ---- releases: those of every visit that was ever there, and of every making call, that is a call to a site that has seen no visit
 

@@ -5,8 +5,9 @@ use mathlib.Core.Path.{_≡_, sym, ap, _∙_, subst, subst₂}
 use mathlib.Core.Logic.{_≢_}
 use mathlib.Core.Bool.{Bool, true, false, false≢true}
 use Rattle.runs.specs.Types.{Kind, Call, Asked, Told, Body, Message}
+use Rattle.runs.specs.Walk.Says.{isRefresh, isBinding, bodyKind}
 use Rattle.runs.specs.Times.View.{View, Ledger}
-use Rattle.runs.specs.Times.Clauses.{isRefresh, isBinding, QuietMail, Quiet, CallFine, PhaseOneFine, LateFine, ToldFine, FigureFine, sentFigures, BodyFine, Holds, bodyKind}
+use Rattle.runs.specs.Times.Clauses.{QuietMail, Quiet, CallFine, PhaseOneFine, LateFine, ToldFine, FigureFine, sentFigures, BodyFine, Holds}
 
 -- a round that binds is no refresh
 pub binding-no-refresh : (k : Kind) → isBinding k ≡ true → isRefresh k ≡ true → ⊥

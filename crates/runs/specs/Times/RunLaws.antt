@@ -8,8 +8,9 @@ use Rattle.rules.specs.Tables.{siteAt, passageAt, visitAt, messageAt, slotOf}
 use Rattle.rules.specs.Parts.{isEmpty, hasAnswered, isClosed}
 use Rattle.rules.specs.Runs.{Started, runOf}
 use Rattle.runs.specs.Types.{Phase, Status, Call, Body, Message, Tables, Step}
+use Rattle.runs.specs.Walk.Says.{isRefresh, isBinding}
 use Rattle.runs.specs.Times.View.{Ledger, viewOf}
-use Rattle.runs.specs.Times.Clauses.{isRefresh, isBinding, Below, Quiet, Holds}
+use Rattle.runs.specs.Times.Clauses.{Below, Quiet, Holds}
 use Rattle.runs.specs.Times.ClausesLaws.{call-says}
 use Rattle.runs.specs.Times.Store.{own-mail, own-body}
 use Rattle.runs.specs.Kept.Closing.{closing-refresh, closing-binding}
