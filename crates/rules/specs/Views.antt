@@ -2,12 +2,12 @@
 use Prim.Native.Nat.{ℕ, _+_}
 use mathlib.Core.Path.{_≡_, refl}
 use mathlib.Core.Logic.{⊎-elim}
-use mathlib.Core.Bool.{Bool, true, false, cond, not, _||_, true≢false}
+use mathlib.Core.Bool.{Bool, true, false, cond, not, _||_, true≢false, false≢true}
 use mathlib.Core.List.{List}
 use lib.Dec.{eqb}
 use Rattle.rules.specs.Types.{Passage, Call, Asked, Told, Body, Step, Check, SlotAt, Trip, Seen, Found}
 use Rattle.rules.specs.Tables.{generationOf}
-use Rattle.rules.specs.Parts.{isFree}
+use Rattle.rules.specs.Parts.{isFree, isEmpty}
 use Rattle.rules.specs.Answers.{isAccepted, firstOf, settleOf}
 use Rattle.rules.specs.LoopsLaws.{either, cond-keeps}
 use Rattle.rules.specs.AnswersLaws.{Fine, accepted-fine}
@@ -117,6 +117,13 @@ mailOf (Body.Call c) = Mail.Calls c
 mailOf (Body.PhaseOne n asked) = Mail.Asks n asked
 mailOf (Body.PhaseTwo n told) = Mail.Tells n told
 mailOf (Body.Answer n r q) = Mail.Quiet _ (λ m seen. same (λ s. s .objects) _ _ seen _ refl) (λ m seen. same (λ s. s .visit) _ _ seen _ refl)
+
+pub empty-says : (b : Body) → isEmpty b ≡ true → b ≡ Body.Empty
+empty-says Body.Empty e = refl
+empty-says (Body.Call c) e = absurd (false≢true e)
+empty-says (Body.PhaseOne n asked) e = absurd (false≢true e)
+empty-says (Body.PhaseTwo n told) e = absurd (false≢true e)
+empty-says (Body.Answer n r q) e = absurd (false≢true e)
 
 -- an empty slot is refused; any other message moves the clock past its stamp
 delivered-clock :

@@ -15,6 +15,7 @@ use Rattle.rules.specs.Checks.{badSite, badTimes}
 use Rattle.rules.specs.Parts.{isFree, isEmpty, isOver, nextClock, newVisit}
 use Rattle.rules.specs.Passages.{beginChecks, begunPassage, beginDone, abortDone, retireChecks, retireDone, nextGeneration}
 use Rattle.rules.specs.Machine.{lookOf, placesOf, seenOf, isMessageOf, remains}
+use Rattle.rules.specs.Views.{empty-says}
 use Rattle.runs.specs.Types.{Status, Body, Tables, Step}
 use Rattle.runs.specs.Walk.Put.{put, put-all}
 use Rattle.runs.specs.Times.View.{View, Ledger, mailOf, viewOf, noLedger, noted, notedPast, firstSeen}
@@ -171,13 +172,6 @@ retire-left t p a k c generation l h none =
         (h .sites s (h .mirror s e .0) .place))))
         (λ e. e)
         (either (visitAt t s p .there))
-
-    empty-says : (b : Body) → isEmpty b ≡ true → b ≡ Body.Empty
-    empty-says Body.Empty e = refl
-    empty-says (Body.Call c₁) e = absurd (false≢true e)
-    empty-says (Body.PhaseOne n x) e = absurd (false≢true e)
-    empty-says (Body.PhaseTwo n x) e = absurd (false≢true e)
-    empty-says (Body.Answer n x q) e = absurd (false≢true e)
 
     no-mail : (i : ℕ) → mailOf p (messageAt t i) .body ≡ Body.Empty
     no-mail i =
