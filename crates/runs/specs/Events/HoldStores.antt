@@ -7,7 +7,6 @@ use mathlib.Core.Bool.{true, _&&_, _||_}
 use lib.Dec.{eqb}
 use lib.ListN.{getD}
 use borrow.Author.Tests.{eq-eqb, ne-eqb}
-use Rattle.rules.specs.declared.tables.Object.{Object}
 use Rattle.rules.specs.declared.looking.Trip.{Trip}
 use Rattle.rules.specs.Tables.{pastObject, bankAt, objectSite}
 use Rattle.rules.specs.RangesLaws.{placed-places, placed-trip}
@@ -35,13 +34,13 @@ pub record LetsGoAt (site : ℕ) (t after : Tables) : Type 0 where
 module _ (t : Tables) (at : Places) (left : Seen) (z : Sized t) (h : Placed at) where
   inside :
       (p k : ℕ) → objectSite k ≡ at .bank
-      → isHolding (stored t at left) p k ≡ isHeldBy p (getD (left .objects) (k % 4) pastObject .holder)
-  inside p k e = ap (λ (o : Object). isHeldBy p (o .holder)) (object-after-stored t at left z h k e)
+      → isHolding (stored t at left) p k ≡ isHeldBy p (getD (left .objects) (k % 4) pastObject)
+  inside p k e = ap (isHeldBy p) (object-after-stored t at left z h k e)
 
   outside : (p k : ℕ) → objectSite k ≢ at .bank → isHolding (stored t at left) p k ≡ isHolding t p k
-  outside p k n = ap (λ (o : Object). isHeldBy p (o .holder)) (object-after-stored-other t at left k n)
+  outside p k n = ap (isHeldBy p) (object-after-stored-other t at left k n)
 
-  seen : (p k : ℕ) → objectSite k ≡ at .bank → isHeldBy p (getD (bankAt t (at .bank)) (k % 4) pastObject .holder) ≡ isHolding t p k
+  seen : (p k : ℕ) → objectSite k ≡ at .bank → isHeldBy p (getD (bankAt t (at .bank)) (k % 4) pastObject) ≡ isHolding t p k
   seen p k e =
       let q : k / 4 ≡ at .bank = e in
       let y : 4 * at .bank + k % 4 ≡ k = omega arith in

@@ -2,16 +2,17 @@
 use Prim.Native.Nat.{ℕ, zero, suc, _+_, _-_, _<_, _≤_}
 use native.Mathlib.Omega.{arith}
 use mathlib.Core.Path.{_≡_, refl, sym, ap, _∙_}
-use mathlib.Core.Logic.{_≢_, inl}
+use mathlib.Core.Logic.{⊎-elim, inl}
 use mathlib.Core.Bool.{Bool, true, false, cond, true≢false, false≢true}
 use mathlib.Core.List.{List, [], _∷_}
 use Rattle.rules.specs.Loops.{mostUpTo}
-use Rattle.rules.specs.Tables.{siteAt, objectAt, passageAt, visitAt, messageAt, objectSite}
+use Rattle.rules.specs.LoopsLaws.{either}
+use Rattle.rules.specs.Tables.{siteAt, passageAt, visitAt, messageAt, objectSite}
 use Rattle.rules.specs.Answers.{isAccepted}
 use Rattle.rules.specs.StoredLaws.{Sized}
 use Rattle.rules.specs.Machine.{headOf, isMessageOf, stepOf}
 use Rattle.rules.specs.Runs.{Started, runOf, runRecordsOf, historyOf}
-use Rattle.rules.specs.declared.tables.Holder.{Holder}
+use Rattle.rules.specs.Events.{isHolding}
 use Rattle.runs.specs.Types.{Status, Told, Body, Message, Tables, Step}
 use Rattle.runs.specs.Walk.Says.{toldQuiesce, toldTime, bodyLatest, bodyAll}
 use Rattle.runs.specs.Times.View.{viewOf}
@@ -32,7 +33,7 @@ use Rattle.runs.specs.Orphans.OrphansGone.{known-commit, known-watched, 
 -- "no visit and no held object" of the slot at the station
 pub record NothingLeft (t : Tables) (slot site : ℕ) : Type 0 where
   pub visit : visitAt t site slot .there ≡ false
-  pub object : (k : ℕ) → k < 32 → objectSite k ≡ site → objectAt t k .holder ≢ Holder.Slot slot
+  pub object : (k : ℕ) → k < 32 → objectSite k ≡ site → isHolding t slot k ≡ false
 
 -- what the demand says of a passage slot and a station, from the moment at which the tables are t, for this T
 pub record Released (t : Tables) (slot site T : ℕ) : Type 0 where
@@ -63,9 +64,11 @@ nothing-left t slot site h e =
     record {
       visit = e;
       object =
-          λ k i s held.
-          true≢false
-          (sym (h .visits k slot i held .1) ∙ ap (λ (x : ℕ). visitAt t x slot .there) s ∙ e);
+          λ k i s.
+          ⊎-elim
+          (λ held. absurd (true≢false (sym (h .visits k slot i held .1) ∙ ap (λ (x : ℕ). visitAt t x slot .there) s ∙ e)))
+          (λ free. free)
+          (either (isHolding t slot k));
     }
 
 -- ---- the smaller T is not above the larger

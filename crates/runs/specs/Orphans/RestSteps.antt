@@ -24,10 +24,10 @@ use Rattle.rules.specs.StoredObjects.{seen-object-at, object-after-stored, obje
 use Rattle.rules.specs.Views.{settled, Objects, Mail, mailOf, deedOf}
 use Rattle.runs.specs.Types.{Kind, Call, Told, Body, Tables, Step, Outcome, Places, Seen, Found}
 use Rattle.runs.specs.Walk.Says.{isPrepare, tellsPrepare, carriesCommit}
-use Rattle.runs.specs.Walk.Put.{same-or-other}
+use Rattle.runs.specs.Walk.Put.{same-or-other, set-at}
 use Rattle.runs.specs.Walk.Sizes.{sized-step-has}
 use Rattle.runs.specs.Times.Ledgers.{seenAt}
-use Rattle.runs.specs.Orphans.Rests.{commits, Stands, Turned, stands-after-turned, standing-after-call, stands-after-freed, standing-after-restored, unheld-after-restored, set-at}
+use Rattle.runs.specs.Orphans.Rests.{commits, Stands, Turned, stands-after-turned, standing-after-call, stands-after-freed, standing-after-restored, unheld-after-restored}
 
 -- ---- the records that a step leaves
 

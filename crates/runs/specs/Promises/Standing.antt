@@ -6,11 +6,10 @@ use mathlib.Core.Bool.{Bool, true, false, cond, _&&_, _||_, true≢false}
 use mathlib.Core.List.{List, [], _∷_, _++_}
 use lib.Dec.{eqb}
 use borrow.Author.Tests.{eq-eqb}
-use Rattle.rules.specs.declared.tables.Holder.{Holder}
 use Rattle.rules.specs.declared.looking.Trip.{Trip}
 use Rattle.rules.specs.declared.outcomes.Check.{Check}
 use Rattle.rules.specs.LoopsLaws.{either, or-left, or-right, not-false, cond-keeps}
-use Rattle.rules.specs.Tables.{objectAt, passageAt, visitAt, messageAt, objectSite, slotOf}
+use Rattle.rules.specs.Tables.{passageAt, visitAt, messageAt, objectSite, slotOf}
 use Rattle.rules.specs.Answers.{isAccepted, firstOf, settleOf}
 use Rattle.rules.specs.AnswersLaws.{Fine}
 use Rattle.rules.specs.Parts.{isFree, abortedPassage, whereThere, toldOf, toldVisit, askedVisit}
@@ -24,6 +23,7 @@ use Rattle.rules.specs.RangesLaws.{placed-places, placed-trip}
 use Rattle.rules.specs.RefusedLaws.{refused-leaves}
 use Rattle.rules.specs.Record.{flatOf, isStep}
 use Rattle.rules.specs.Runs.{Started, runOf}
+use Rattle.rules.specs.Events.{isHolding}
 use Rattle.rules.specs.Views.{settled, Marks, Mail, mailOf, Goes, deedOf}
 use Rattle.runs.specs.Types.{Kind, Passage, Visit, Asked, Told, Body, Message, Tables, Step, Places, Seen, Outcome, Found}
 use Rattle.runs.specs.Walk.Says.{isPrepare, isTerminate, tellsPrepare, carriesCommit, asksTerminate}
@@ -274,7 +274,7 @@ module _ (s p : ℕ) (slot : p < 16) where
 -- what stands of a promise from one moment to another: the visit with its mark, and every object that the passage holds at the site
 pub record StandsFrom (t u : Tables) (site slot : ℕ) : Type 0 where
   pub promised : Promised u site slot
-  pub objects : (k : ℕ) → objectSite k ≡ site → objectAt t k .holder ≡ Holder.Slot slot → objectAt u k .holder ≡ Holder.Slot slot
+  pub objects : (k : ℕ) → objectSite k ≡ site → isHolding t slot k ≡ true → isHolding u slot k ≡ true
 
 module _ {t₀ : Tables} (fresh : Started t₀) (s p : ℕ) (slot : p < 16) where
   -- in a run the slot of a visit is in use
