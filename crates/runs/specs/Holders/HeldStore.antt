@@ -11,9 +11,10 @@ use Rattle.rules.specs.Parts.{isHeldBy}
 use Rattle.rules.specs.Machine.{stored}
 use Rattle.rules.specs.Events.{isHolding}
 use Rattle.rules.specs.StoredObjects.{seen-object-at, object-after-stored, object-after-stored-other}
-use Rattle.rules.specs.StoredLaws.{Sized, Placed, sized-after-stored, visit-place-same, visit-after-stored, visit-after-stored-other, message-after-stored, message-after-stored-other}
+use Rattle.rules.specs.StoredLaws.{Placed, visit-place-same, visit-after-stored, visit-after-stored-other, message-after-stored, message-after-stored-other}
 use Rattle.runs.specs.Types.{Call, Body, Message, Tables, Places, Seen}
 use Rattle.runs.specs.Walk.Put.{same-or-other}
+use Rattle.runs.specs.Walk.Sound.{Sound}
 
 -- ---- the invariant
 
@@ -22,7 +23,7 @@ abbrev pub GoesHome : Message → Call → Type 0
 GoesHome m c = (m .destination ≡ objectSite (c .object)) × (c .object < 32)
 
 pub record Held (t : Tables) : Type 0 where
-  pub sized : Sized t
+  pub sound : Sound t
   -- who holds an object is a slot with a visit at the object's site
   pub visits :
       (k p : ℕ) → k < 32 → isHolding t p k ≡ true
@@ -63,7 +64,7 @@ module _ (t : Tables) (at : Places) (left : Seen) (k : Held t) (h : Placed at) (
 
       place : (s ≡ at .site) ⊎ (s ≢ at .site) → (p ≡ at .slot) ⊎ (p ≢ at .slot) → visitAt (stored t at left) s p .there ≡ true
       place (inl a) (inl b) =
-          rw (a, b, visit-after-stored t at left (k .sized) h) (own a b (either (left .visit .there)))
+          rw (a, b, visit-after-stored t at left (k .sound .sized) h) (own a b (either (left .visit .there)))
       place (inr a) b =
           rw (visit-after-stored-other t at left s p (λ y. a (visit-place-same s p (at .site) (at .slot) l (h .slot) y .0))) e
       place (inl a) (inr b) =
@@ -84,7 +85,7 @@ module _ (t : Tables) (at : Places) (left : Seen) (k : Held t) (h : Placed at) (
       (v .0, visit-stays (objectSite j) p (v .0) (v .1) (λ y z free. true≢false (sym e ∙ free (j % 4) (omega arith))))
   held-inside j p b l e (inr (s, (there, own))) =
       let y : objectSite j ≡ at .site = b ∙ own in
-      rw (s, y, visit-after-stored t at left (k .sized) h) (h .slot, there)
+      rw (s, y, visit-after-stored t at left (k .sound .sized) h) (h .slot, there)
 
   -- and so has who holds another
   held-outside :
@@ -101,7 +102,7 @@ module _ (t : Tables) (at : Places) (left : Seen) (k : Held t) (h : Placed at) (
       ⊎-elim
       (λ b.
       let q : isHeldBy p (getD (left .objects) (j % 4) pastObject) ≡ true =
-      sym (ap (isHeldBy p) (object-after-stored t at left (k .sized) h j b)) ∙ e in
+      sym (ap (isHeldBy p) (object-after-stored t at left (k .sound .sized) h j b)) ∙ e in
       held-inside j p b l q (x .objects (j % 4) p (omega arith) q))
       (λ n.
       held-outside j p n l (sym (ap (isHeldBy p) (object-after-stored-other t at left j n)) ∙ e))
@@ -110,14 +111,14 @@ module _ (t : Tables) (at : Places) (left : Seen) (k : Held t) (h : Placed at) (
   held-calls : (m : ℕ) (c : Call) → messageAt (stored t at left) m .body ≡ Body.Call c → GoesHome (messageAt (stored t at left) m) c
   held-calls m c =
       ⊎-elim
-      (λ (e : m ≡ at .message). rw (e, message-after-stored t at left (k .sized) h) (x .calls c))
+      (λ (e : m ≡ at .message). rw (e, message-after-stored t at left (k .sound .sized) h) (x .calls c))
       (λ n. rw (message-after-stored-other t at left m n) (k .calls m c))
       (same-or-other m (at .message))
 
-  pub held-stored : Held (stored t at left)
-  held-stored =
+  pub held-stored : Sound (stored t at left) → Held (stored t at left)
+  held-stored z =
       record {
-        sized = sized-after-stored t at left (k .sized);
+        sound = z;
         visits = held-visits;
         calls = held-calls;
       }

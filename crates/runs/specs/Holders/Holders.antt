@@ -18,7 +18,7 @@ use Rattle.rules.specs.Runs.{Started, start-started, runOf}
 use Rattle.rules.specs.Events.{isHolding}
 use Rattle.runs.specs.Types.{Call, Body, Message, Tables, Step, Outcome, Found}
 use Rattle.runs.specs.Walk.Plain.{repeat-has}
-use Rattle.runs.specs.Walk.Sizes.{step-holds, run-holds, sized-started}
+use Rattle.runs.specs.Walk.Sound.{step-holds, run-holds, sound-head, sound-turn, sound-started}
 use Rattle.runs.specs.Holders.HeldStore.{GoesHome, Held, Keeps, held-stored}
 use Rattle.runs.specs.Holders.HeldSteps.{no-call, station-keeps, begin-keeps, retire-keeps, drop-keeps, sent-keeps, invoke-keeps, open-keeps, abort-keeps, close-keeps, deliver-keeps, turned-keeps}
 
@@ -47,13 +47,13 @@ decided-keeps t (Step.Retire h) found k = retire-keeps t _ k h (found .remains)
 
 held-head : (t : Tables) (step : Step) → Held t → Held (headOf t step .tables)
 unfolding headOf
-held-head t step k = held-stored t _ _ k (placed-places t (lookOf step)) (decided-keeps t step _ k)
+held-head t step k = held-stored t _ _ k (placed-places t (lookOf step)) (decided-keeps t step _ k) (sound-head t step (k .sound))
 
 held-turn : (trip : Trip) (slot : ℕ) (o : Outcome) → slot < 16 → Held (o .tables) → Held (turnOf trip slot o .tables)
 held-turn trip slot o l k =
     rw
     (turn-stored trip slot o)
-    (held-stored (o .tables) (tripPlaces trip slot) _ k (placed-trip trip slot l) (turned-keeps (o .tables) (tripPlaces trip slot) k trip refl))
+    (held-stored (o .tables) (tripPlaces trip slot) _ k (placed-trip trip slot l) (turned-keeps (o .tables) (tripPlaces trip slot) k trip refl) (rw (turn-stored trip slot o) at (sound-turn trip slot o l (k .sound))))
 
 -- ---- the start, and every run
 
@@ -69,7 +69,7 @@ held-start : Held start
 unfolding start
 held-start =
     record {
-      sized = sized-started start-started;
+      sound = sound-started start-started;
       visits =
           λ j p l e.
           absurd (true≢false (sym e ∙ unheld-not-held p (objectAt start j) (start-unheld j)));

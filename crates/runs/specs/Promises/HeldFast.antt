@@ -29,7 +29,7 @@ use Rattle.rules.specs.Views.{settled, Objects, Mail, mailOf, deedOf}
 use Rattle.runs.specs.Types.{Visit, Call, Told, Body, Tables, Step, Places, Seen, Outcome, Found}
 use Rattle.runs.specs.Walk.Put.{same-or-other}
 use Rattle.runs.specs.Walk.Steps.{run-on}
-use Rattle.runs.specs.Walk.Sizes.{sized-run, sized-step, sized-step-has}
+use Rattle.runs.specs.Walk.Sound.{Sound, sound-run, sound-step, sound-step-has}
 use Rattle.runs.specs.Promises.Promised.{Promised, isWord, stored-has, promised-stays}
 
 -- ---- what a decision leaves of the objects that it saw
@@ -174,32 +174,32 @@ module _ (k p : ℕ) (slot : p < 16) where
       (same-or-other (objectSite k) (at .bank))
 
   turn-fast :
-      (trip : Trip) (n : ℕ) (o : Outcome) → n < 16 → Sized (o .tables) → HeldOrGone (o .tables)
+      (trip : Trip) (n : ℕ) (o : Outcome) → n < 16 → Sound (o .tables) → HeldOrGone (o .tables)
       → HeldOrGone (turnOf trip n o .tables)
   turn-fast trip n o l z h =
       let at : Places = tripPlaces trip n in
       rw
       (turn-stored trip n o)
       (⊎-elim
-      (λ e. stored-fast (o .tables) at _ z (placed-trip trip n l) (turned-fast (o .tables) at trip refl) e)
+      (λ e. stored-fast (o .tables) at _ (z .sized) (placed-trip trip n l) (turned-fast (o .tables) at trip refl) e)
       (λ e.
       inr
-      (stored-has (λ v. v .there ≡ false) (o .tables) at _ z (placed-trip trip n l) (objectSite k) p slot
+      (stored-has (λ v. v .there ≡ false) (o .tables) at _ (z .sized) (placed-trip trip n l) (objectSite k) p slot
       (λ a b. turned-gone trip n (seenOf (o .tables) at) (subst₂ (λ (x y : ℕ). visitAt (o .tables) x y .there ≡ false) a b e))
       e))
       h)
 
-  head-fast : (t : Tables) (step : Step) → Sized t → isHolding t p k ≡ true → HeldOrGone (headOf t step .tables)
+  head-fast : (t : Tables) (step : Step) → Sound t → isHolding t p k ≡ true → HeldOrGone (headOf t step .tables)
   unfolding headOf
-  head-fast t step z e = stored-fast t (placesOf t (lookOf step)) _ z (placed-places t (lookOf step)) (decided-fast t step _) e
+  head-fast t step z e = stored-fast t (placesOf t (lookOf step)) _ (z .sized) (placed-places t (lookOf step)) (decided-fast t step _) e
 
   -- in any tables: after every step the slot that held the object holds it, or has no visit at its site
   pub let-go-with-visit :
-      (t : Tables) (step : Step) → Sized t → isHolding t p k ≡ true
+      (t : Tables) (step : Step) → Sound t → isHolding t p k ≡ true
       → (isHolding (stepOf t step .tables) p k ≡ true)
       ⊎ (visitAt (stepOf t step .tables) (objectSite k) p .there ≡ false)
   let-go-with-visit t step z e =
-      sized-step-has
+      sound-step-has
       t
       step
       z
@@ -222,8 +222,8 @@ pub promised-object-held :
 promised-object-held {t₀} fresh ss step k p slot promised held f =
     ⊎-elim
     (λ e. e)
-    (λ gone. absurd (true≢false (sym (promised-stays (objectSite k) p slot (runOf t₀ ss) step (sized-run fresh ss) promised f) ∙ gone)))
-    (let-go-with-visit k p slot (runOf t₀ ss) step (sized-run fresh ss) held)
+    (λ gone. absurd (true≢false (sym (promised-stays (objectSite k) p slot (runOf t₀ ss) step (sound-run fresh ss) promised f) ∙ gone)))
+    (let-go-with-visit k p slot (runOf t₀ ss) step (sound-run fresh ss) held)
 
 -- the visit of this slot is there after each of the steps
 unfoldable pub ThereThrough : Tables → ℕ → ℕ → List Step → Type 0
@@ -231,7 +231,7 @@ ThereThrough t site slot [] = Unit {0}
 ThereThrough t site slot (x ∷ xs) = (visitAt (stepOf t x .tables) site slot .there ≡ true) × ThereThrough (stepOf t x .tables) site slot xs
 
 held-through :
-    (t : Tables) (ss : List Step) (k p : ℕ) → p < 16 → Sized t → isHolding t p k ≡ true
+    (t : Tables) (ss : List Step) (k p : ℕ) → p < 16 → Sound t → isHolding t p k ≡ true
     → ThereThrough t (objectSite k) p ss
     → isHolding (runOf t ss) p k ≡ true
 unfolding runOf ThereThrough
@@ -243,7 +243,7 @@ held-through t (x ∷ xs) k p slot z held there =
     k
     p
     slot
-    (sized-step t x z)
+    (sound-step t x z)
     (⊎-elim (λ e. e) (λ gone. absurd (true≢false (sym (there .0) ∙ gone))) (let-go-with-visit k p slot t x z held))
     (there .1)
 
@@ -253,4 +253,4 @@ pub object-held-while-visit-there :
     → ThereThrough (runOf t₀ before) (objectSite k) p after
     → isHolding (runOf t₀ (before ++ after)) p k ≡ true
 object-held-while-visit-there {t₀} fresh before after k p slot held there =
-    rw (run-on t₀ before after) (held-through (runOf t₀ before) after k p slot (sized-run fresh before) held there)
+    rw (run-on t₀ before after) (held-through (runOf t₀ before) after k p slot (sound-run fresh before) held there)
