@@ -76,7 +76,6 @@ pub fn deliver_call(m: u8, call: Call, seen: Seen) -> Decision
     let clock = mail_clock(seen);
     let v = called_visit(call, seen.visit);
     let object = called_object(call, seen);
-    let holder = object.holder;
     let tried = refuse(Refusal::BadField, bad_message(m));
     let tried = or_else(tried, site_down(seen));
     let tried = or_else(tried, clock_full(clock));
@@ -86,7 +85,7 @@ pub fn deliver_call(m: u8, call: Call, seen: Seen) -> Decision
     );
     let tried = or_else(
         tried,
-        refuse(Refusal::Held, is_held_by_other(mail_slot(seen), holder)),
+        refuse(Refusal::Held, is_held_by_other(mail_slot(seen), object)),
     );
     let tried = or_else(tried, refuse(Refusal::Full, COUNT_MOST <= v.received));
     let left = called(call, clock, seen);

@@ -6,18 +6,20 @@ use rules::tables::Told;
 ghost use mathlib.Core.Path.{_≡_};
 ghost use Rattle.rules.specs.Parts.{isHeldBy, isHeldByOther, unheld, taken, operated, freed, restored, eachOf, toldObjects};
 
-fn is_held_by(slot: u8, holder: Holder) -> bool
-    ensures { λ r. ⌜ r ≡ isHeldBy slot holder ⌝ }
+fn is_held_by(slot: u8, o: Object) -> bool
+    ensures { λ r. ⌜ r ≡ isHeldBy slot o ⌝ }
 {
+    let holder = o.holder;
     match holder {
         Holder::Nobody => false,
         Holder::Slot(k) => k == slot,
     }
 }
 
-pub fn is_held_by_other(slot: u8, holder: Holder) -> bool
-    ensures { λ r. ⌜ r ≡ isHeldByOther slot holder ⌝ }
+pub fn is_held_by_other(slot: u8, o: Object) -> bool
+    ensures { λ r. ⌜ r ≡ isHeldByOther slot o ⌝ }
 {
+    let holder = o.holder;
     match holder {
         Holder::Nobody => false,
         Holder::Slot(k) => !(k == slot),
@@ -69,8 +71,7 @@ pub fn unheld(value: u32) -> Object
 fn freed(slot: u8, o: Object) -> Object
     ensures { λ r. ⌜ r ≡ freed slot o ⌝ }
 {
-    let holder = o.holder;
-    if is_held_by(slot, holder) {
+    if is_held_by(slot, o) {
         unheld(o.value)
     } else {
         o
@@ -81,8 +82,7 @@ fn freed(slot: u8, o: Object) -> Object
 fn restored(slot: u8, o: Object) -> Object
     ensures { λ r. ⌜ r ≡ restored slot o ⌝ }
 {
-    let holder = o.holder;
-    if is_held_by(slot, holder) {
+    if is_held_by(slot, o) {
         unheld(o.before)
     } else {
         o

@@ -35,10 +35,11 @@ fn site_in_range(s: Site) -> bool
     s.clock <= CLOCK_MOST
 }
 
-fn holder_in_range(h: Holder) -> bool
-    ensures { λ r. ⌜ r ≡ holderInRange h ⌝ }
+fn holder_in_range(o: Object) -> bool
+    ensures { λ r. ⌜ r ≡ holderInRange o ⌝ }
 {
-    match h {
+    let holder = o.holder;
+    match holder {
         Holder::Nobody => true,
         Holder::Slot(p) => p <= SLOT_MOST,
     }
@@ -47,8 +48,7 @@ fn holder_in_range(h: Holder) -> bool
 fn object_in_range(o: Object) -> bool
     ensures { λ r. ⌜ r ≡ objectInRange o ⌝ }
 {
-    let holder = o.holder;
-    (o.value <= WIDTH_MOST) & (o.before <= WIDTH_MOST) & holder_in_range(holder)
+    (o.value <= WIDTH_MOST) & (o.before <= WIDTH_MOST) & holder_in_range(o)
 }
 
 fn counts_in_range(sent: [u16; 8]) -> bool

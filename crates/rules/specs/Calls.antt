@@ -113,7 +113,7 @@ callChecks m c seen =
     Refusal.Quiesced
     (leb (calledVisit c (seen .visit) .quiesce) (mailClock seen)
     || calledVisit c (seen .visit) .dead)
-    ∷ refuse Refusal.Held (isHeldByOther (mailSlot seen) (calledObject c seen .holder))
+    ∷ refuse Refusal.Held (isHeldByOther (mailSlot seen) (calledObject c seen))
     ∷ refuse Refusal.Full (leb countMost (calledVisit c (seen .visit) .received))
     ∷ []
 

@@ -130,7 +130,7 @@ pub record CallDelivered (t t′ : Tables) (m : ℕ) (x : Message) (site slot : 
   pub object-below : c .object < 32
   pub early : deliveryClock (siteAt t site) x < calledVisit c (visitAt t site slot) .quiesce
   pub alive : calledVisit c (visitAt t site slot) .dead ≡ false
-  pub unheld : isHeldByOther slot (objectAt t (c .object) .holder) ≡ false
+  pub unheld : isHeldByOther slot (objectAt t (c .object)) ≡ false
   pub room : calledVisit c (visitAt t site slot) .received < countMost
   -- the value before the operation
   pub value : v ≡ objectAt t (c .object) .value

@@ -38,7 +38,7 @@ eventIn t step kind slot object =
 
 -- object k is held by passage slot p
 abbrev pub isHolding : Tables → ℕ → ℕ → Bool
-isHolding t p k = isHeldBy p (objectAt t k .holder)
+isHolding t p k = isHeldBy p (objectAt t k)
 
 -- ---- took, then operated: by a delivered call
 

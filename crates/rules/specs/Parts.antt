@@ -192,23 +192,20 @@ countReceived v =
 
 -- ---- objects
 
-abbrev pub isUnheld : Holder → Bool
-isUnheld Holder.Nobody = true
-isUnheld (Holder.Slot k) = false
+abbrev pub isUnheld : Object → Bool
+isUnheld o = elim (o .holder) [ Holder.Nobody ↦ true | Holder.Slot k ↦ false ]
 
-abbrev pub isHeldBy : ℕ → Holder → Bool
-isHeldBy p Holder.Nobody = false
-isHeldBy p (Holder.Slot k) = eqb k p
+abbrev pub isHeldBy : ℕ → Object → Bool
+isHeldBy p o = elim (o .holder) [ Holder.Nobody ↦ false | Holder.Slot k ↦ eqb k p ]
 
 -- "object held by another passage"
-abbrev pub isHeldByOther : ℕ → Holder → Bool
-isHeldByOther p Holder.Nobody = false
-isHeldByOther p (Holder.Slot k) = not (eqb k p)
+abbrev pub isHeldByOther : ℕ → Object → Bool
+isHeldByOther p o = elim (o .holder) [ Holder.Nobody ↦ false | Holder.Slot k ↦ not (eqb k p) ]
 
 -- "The object is taken if unheld": a held one keeps the value before its first taking
 abbrev pub taken : ℕ → Object → Object
 taken p o =
-    cond (isUnheld (o .holder)) (record { value = o .value; holder = Holder.Slot p; before = o .value }) o
+    cond (isUnheld o) (record { value = o .value; holder = Holder.Slot p; before = o .value }) o
 
 -- "then read or written"
 abbrev pub operated : Call → Object → Object
@@ -221,11 +218,11 @@ unheld value = record { value = value; holder = Holder.Nobody; before = 0 }
 
 -- "its objects are freed and keep their values"
 abbrev pub freed : ℕ → Object → Object
-freed p o = cond (isHeldBy p (o .holder)) (unheld (o .value)) o
+freed p o = cond (isHeldBy p o) (unheld (o .value)) o
 
 -- "restores and frees its objects"
 abbrev pub restored : ℕ → Object → Object
-restored p o = cond (isHeldBy p (o .holder)) (unheld (o .before)) o
+restored p o = cond (isHeldBy p o) (unheld (o .before)) o
 
 -- a change of each of a site's four objects
 abbrev pub eachOf : (Object → Object) → List Object → List Object

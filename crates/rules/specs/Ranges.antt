@@ -15,13 +15,12 @@ abbrev pub siteInRange : Site → Bool
 siteInRange s = leb (s .clock) clockMost
 
 -- "holder (a slot) or none"
-abbrev pub holderInRange : Holder → Bool
-holderInRange Holder.Nobody = true
-holderInRange (Holder.Slot p) = leb p slotMost
+abbrev pub holderInRange : Object → Bool
+holderInRange o = elim (o .holder) [ Holder.Nobody ↦ true | Holder.Slot p ↦ leb p slotMost ]
 
 -- "Value 0..1,000,000 (mm), holder (a slot) or none, and the value before the holder took it"
 abbrev pub objectInRange : Object → Bool
-objectInRange o = leb (o .value) widthMost && leb (o .before) widthMost && holderInRange (o .holder)
+objectInRange o = leb (o .value) widthMost && leb (o .before) widthMost && holderInRange o
 
 -- "calls sent to each site (0..1,000 each)"
 unfoldable pub countsInRange : List ℕ → Bool

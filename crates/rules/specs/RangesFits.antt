@@ -159,16 +159,16 @@ message-makes m b =
 pub record ObjectFits (o : Object) : Type 0 where
   pub value : o .value ≤ widthMost
   pub before : o .before ≤ widthMost
-  pub holder : holderInRange (o .holder) ≡ true
+  pub held : holderInRange o ≡ true
 
 object-says : (o : Object) → objectInRange o ≡ true → ObjectFits o
 object-says o e =
     both e λ e h.
     both e λ v b.
-    record { value = leb-true _ _ v; before = leb-true _ _ b; holder = h }
+    record { value = leb-true _ _ v; before = leb-true _ _ b; held = h }
 
 object-makes : (o : Object) → ObjectFits o → objectInRange o ≡ true
-object-makes o b = rw (le-leb _ _ (b .value), le-leb _ _ (b .before)) (b .holder)
+object-makes o b = rw (le-leb _ _ (b .value), le-leb _ _ (b .before)) (b .held)
 
 abbrev pub ObjectsFit : List Object → Type 0
 ObjectsFit os = (i : ℕ) → ObjectFits (getD os i pastObject)
@@ -244,9 +244,9 @@ answer-message-fits v s d h c b p q r t =
 -- an object that is let go with a value in range, or stays
 pub let-go-fits :
     (p x : ℕ) (o : Object) → x ≤ widthMost → ObjectFits o
-    → ObjectFits (cond (isHeldBy p (o .holder)) (unheld x) o)
+    → ObjectFits (cond (isHeldBy p o) (unheld x) o)
 let-go-fits p x o h b =
-    cond-keeps ObjectFits (isHeldBy p (o .holder)) _ o (search (arith, refl)) b
+    cond-keeps ObjectFits (isHeldBy p o) _ o (search (arith, refl)) b
 
 pub taken-fits : (p : ℕ) (o : Object) → p ≤ 15 → ObjectFits o → ObjectFits (taken p o)
 taken-fits p o h b = search (arith, le-leb p 15 h, cond-keeps ObjectFits)

@@ -1,5 +1,4 @@
 -- Who holds an object has a visit at its site.
-pub mod Banks
 pub mod HeldStore
 pub mod HeldSteps
 pub mod Holders

@@ -1,9 +1,9 @@
--- How a law is shown over a step and along a run, and what is shown first: lengths, clocks, and that what passrun runs is a run.
+-- How a law is shown over a step and along a run, and what is shown first: sound tables, clocks, and that what passrun runs is a run.
 pub mod Plain
 pub mod Put
 pub mod Says
 pub mod Steps
-pub mod Sizes
+pub mod Sound
 pub mod Clocks
 pub mod Counted
 pub mod PrintedRuns

@@ -215,12 +215,12 @@ module _ (t : Tables) (step : Step) (held : Held t) (p k : ℕ) (slot : p < 16) 
       (λ e.
       freed-here t step p k slot e _
       ∙ (rw
-      (step-takes t step (held .sized) a c f p k)
+      (step-takes t step (held .sound) a c f p k)
       (taken-told (isHolding t p k) (eqb (placesOf t (lookOf step) .slot) p && eqb (c .object) k))))
-      (λ n. freed-away t step p k n _ ∙ sym (step-takes t step (held .sized) a c f p k))
+      (λ n. freed-away t step p k n _ ∙ sym (step-takes t step (held .sound) a c f p k))
       (same-or-other (objectSite k) (placesOf t (lookOf step) .site)))
   accepted-told a (let-go f) =
-      let g : LetsGoAt (placesOf t (lookOf step) .site) t (stepOf t step .tables) = step-lets-go t step (held .sized) a f in
+      let g : LetsGoAt (placesOf t (lookOf step) .site) t (stepOf t step .tables) = step-lets-go t step (held .sound) a f in
       rw
       (acting-events t step a (f .acts), f .delivers)
       (⊎-elim
@@ -228,7 +228,7 @@ module _ (t : Tables) (step : Step) (held : Held t) (p k : ℕ) (slot : p < 16) 
       (λ n. freed-away t step p k n _ ∙ sym (g .away p k n))
       (same-or-other (objectSite k) (placesOf t (lookOf step) .site)))
   accepted-told a (idle f) =
-      rw (idle-no-event t step (f .acts)) (sym (step-stays t step (held .sized) a f p k))
+      rw (idle-no-event t step (f .acts)) (sym (step-stays t step (held .sound) a f p k))
 
   -- whatever the step, accepted or not
   pub events-tell : heldOver (eventsOf t step) p k (isHolding t p k) ≡ isHolding (stepOf t step .tables) p k

@@ -8,34 +8,28 @@ use mathlib.Core.Bool.{Bool, true, false, cond, not, _&&_, true≢false, false�
 use mathlib.Core.List.{List, [], _∷_, _++_}
 use lib.Dec.{eqb}
 use borrow.Author.Tests.{eqb-true, eq-eqb}
-use Rattle.rules.specs.declared.tables.Holder.{Holder}
-use Rattle.rules.specs.declared.tables.Object.{Object}
 use Rattle.rules.specs.Loops.{someUpTo}
 use Rattle.rules.specs.LoopsLaws.{either, and-left, and-right, or-left, or-right, some-none}
-use Rattle.rules.specs.Tables.{start, pastObject, noObject, objectAt, passageAt, visitAt, objectSite, slotOf}
+use Rattle.rules.specs.Tables.{objectAt, passageAt, visitAt, objectSite, slotOf}
 use Rattle.rules.specs.Answers.{isAccepted}
 use Rattle.rules.specs.AnswersLaws.{accepted-fine}
-use Rattle.rules.specs.Parts.{isHeldBy, isOver}
+use Rattle.rules.specs.Parts.{isOver}
+use Rattle.rules.specs.PartsLaws.{unheld-not-held, one-holder}
 use Rattle.rules.specs.Passages.{retireOf}
 use Rattle.rules.specs.Machine.{placesOf, remains, decideOf, headOf, stepOf}
 use Rattle.rules.specs.Runs.{Started, actsAtSite, runOf}
 use Rattle.rules.specs.Views.{Generation, deedOf}
 use Rattle.rules.specs.Events.{Event, isHolding, eventsOf}
 use Rattle.runs.specs.Types.{Tables, Step}
-use Rattle.runs.specs.Walk.Plain.{repeat-has}
 use Rattle.runs.specs.Walk.Steps.{head-accepted}
 use Rattle.runs.specs.Holders.HeldStore.{Held}
-use Rattle.runs.specs.Holders.Holders.{held-started, held-step}
+use Rattle.runs.specs.Holders.Holders.{started-unheld, held-started, held-step}
 use Rattle.runs.specs.Orphans.Orphans.{retires}
 use Rattle.runs.specs.Events.Uses.{usesAfter, usesFrom, useOf, PassageEvent, withUses, eventsFrom, eventsUpTo, isOf, holdAfter, heldSince, heldIn}
 use Rattle.runs.specs.Events.HoldSteps.{and-true, and-false}
 use Rattle.runs.specs.Events.EventsLaws.{idle-no-event, heldOver, events-tell}
 
 -- ---- a retired slot holds nothing
-
-holder-is : (p : ℕ) (x : Holder) → isHeldBy p x ≡ true → x ≡ Holder.Slot p
-holder-is p Holder.Nobody e = absurd (false≢true e)
-holder-is p (Holder.Slot q) e = ap Holder.Slot (eqb-true q p e)
 
 -- a retire acts at no site, and nothing of its slot remains
 retired-leaves :
@@ -62,7 +56,7 @@ remains-holding t p k held l r =
     (λ e.
     absurd
     (true≢false
-    (sym (held .visits k p l (holder-is p (objectAt t k .holder) e) .1)
+    (sym (held .visits k p l e .1)
     ∙ some-none (λ s. visitAt t s p .there) 8 (or-left (someUpTo (λ s. visitAt t s p .there) 8) _ r) (objectSite k) (omega arith))))
     (λ e. e)
     (either (isHolding t p k))
@@ -153,12 +147,8 @@ held-by-list-from t uses (s ∷ ss) p u k held slot l =
     ∙ held-by-list-from (stepOf t s .tables) (usesAfter t s uses) ss p u k (held-step t s held) slot l
 
 -- at the start nobody holds anything
-start-holding : (p k : ℕ) → isHolding start p k ≡ false
-unfolding start
-start-holding p k = repeat-has (λ (o : Object). isHeldBy p (o .holder) ≡ false) 32 noObject pastObject refl refl k
-
 started-holding : {t₀ : Tables} → Started t₀ → (p k : ℕ) → isHolding t₀ p k ≡ false
-started-holding fresh p k = rw (fresh .empty) (start-holding p k)
+started-holding {t₀} fresh p k = unheld-not-held p (objectAt t₀ k) (started-unheld fresh k)
 
 -- by the list, use u of slot p holds object k exactly if in the tables the slot holds it and u is its present use
 pub held-by-list :
@@ -186,12 +176,8 @@ pub listed-by-one :
     {t₀ : Tables} → Started t₀ → (ss : List Step) (p u q v k : ℕ) → p < 16 → q < 16 → k < 32 → heldIn (eventsUpTo t₀ ss) p u k ≡ true → heldIn (eventsUpTo t₀ ss) q v k ≡ true
     → (p ≡ q) × (u ≡ v)
 listed-by-one {t₀} fresh ss p u q v k lp lq l e f =
-    let same : p ≡ q = one-holder p q (objectAt (runOf t₀ ss) k .holder) (slot-holds p u lp e) (slot-holds q v lq f) in
+    let same : p ≡ q = one-holder p q (objectAt (runOf t₀ ss) k) (slot-holds p u lp e) (slot-holds q v lq f) in
     (same, listed-in-present-use fresh ss p u k lp l e ∙ ap (useOf t₀ ss) same ∙ sym (listed-in-present-use fresh ss q v k lq l f))
   where
-    one-holder : (a b : ℕ) (x : Holder) → isHeldBy a x ≡ true → isHeldBy b x ≡ true → a ≡ b
-    one-holder a b Holder.Nobody g h = absurd (false≢true g)
-    one-holder a b (Holder.Slot c) g h = sym (eqb-true c a g) ∙ eqb-true c b h
-
     slot-holds : (a w : ℕ) → a < 16 → heldIn (eventsUpTo t₀ ss) a w k ≡ true → isHolding (runOf t₀ ss) a k ≡ true
     slot-holds a w i g = and-left _ (eqb (useOf t₀ ss a) w) (sym (held-by-list fresh ss a w k i l) ∙ g)

@@ -3,21 +3,21 @@ use Prim.Native.Nat.{ℕ, _/_, _%_, _<_}
 use native.Mathlib.Omega.{arith}
 use mathlib.Core.Path.{_≡_, refl, sym}
 use mathlib.Core.Logic.{⊎-elim}
-use mathlib.Core.Bool.{Bool, true, false, cond, _&&_, _||_, false≢true}
+use mathlib.Core.Bool.{Bool, true, false, _&&_, _||_}
 use mathlib.Core.List.{List, []}
 use lib.Dec.{eqb}
 use lib.ListN.{getD}
 use lib.Seq.{getD-set-same, getD-set-other}
-use borrow.Author.Tests.{eqb-true, eq-eqb, ne-eqb}
-use Rattle.rules.specs.declared.tables.Holder.{Holder}
+use borrow.Author.Tests.{eq-eqb, ne-eqb}
 use Rattle.rules.specs.declared.tables.Object.{Object}
 use Rattle.rules.specs.declared.outcomes.Check.{Check}
 use Rattle.rules.specs.declared.looking.Trip.{Trip}
-use Rattle.rules.specs.LoopsLaws.{cond-keeps, not-false}
+use Rattle.rules.specs.LoopsLaws.{cond-keeps}
 use Rattle.rules.specs.Tables.{pastObject, messageAt, bankAt, objectSite, slotOf}
 use Rattle.rules.specs.Answers.{isAccepted, firstOf, settleOf}
 use Rattle.rules.specs.AnswersLaws.{accepted-fine}
-use Rattle.rules.specs.Parts.{nextClock, isHeldBy, isHeldByOther, taken, operated, unheld, freed, restored, toldObjects}
+use Rattle.rules.specs.Parts.{nextClock, isHeldBy, isHeldByOther, taken, operated, freed, restored, toldObjects}
+use Rattle.rules.specs.PartsLaws.{take-one, freed-lets-go, restored-lets-go, let-go-holder}
 use Rattle.rules.specs.Stations.{tickOf, sweepOf, crashOf, recoverOf, isSwept, sweptSlot}
 use Rattle.rules.specs.Passages.{beginOf, abortOf, retireOf}
 use Rattle.rules.specs.Rounds.{refreshOf, terminateOf, prepareOf, openOf, askOf, closeOf, tellOf, closed, roundTold}
@@ -32,14 +32,6 @@ use Rattle.runs.specs.Holders.HeldStore.{Held}
 
 -- ---- single objects
 
-or-false : (b : Bool) → (b || false) ≡ b
-or-false true = refl
-or-false false = refl
-
-or-same : (b : Bool) → (b || b) ≡ b
-or-same true = refl
-or-same false = refl
-
 pub and-true : (b : Bool) → (b && true) ≡ b
 and-true true = refl
 and-true false = refl
@@ -50,39 +42,7 @@ and-false false = refl
 
 -- after a change that lets go at most: who holds it held it
 abbrev pub LetsGo : Object → Object → Type 0
-LetsGo o left = (p : ℕ) → isHeldBy p (left .holder) ≡ true → isHeldBy p (o .holder) ≡ true
-
-let-go-one : (q value : ℕ) (o : Object) → LetsGo o (cond (isHeldBy q (o .holder)) (unheld value) o)
-let-go-one q value o =
-    cond-keeps (LetsGo o) (isHeldBy q (o .holder)) (unheld value) o (λ p e. absurd (false≢true e)) (λ p e. e)
-
--- an object that no other holds is taken: the slot holds it, and nobody else
-take-one :
-    (q p : ℕ) (c : Call) (o : Object) → isHeldByOther q (o .holder) ≡ false
-    → isHeldBy p (operated c (taken q o) .holder) ≡ (eqb q p || isHeldBy p (o .holder))
-take-one q p c o = by-holder (o .value) (o .holder) (o .before) (c .write)
-  where
-    own : (r : ℕ) → isHeldByOther q (Holder.Slot r) ≡ false → eqb r p ≡ (eqb q p || eqb r p)
-    own r f = let e : r ≡ q = eqb-true r q (not-false (eqb r q) f) in rw e (sym (or-same (eqb q p)))
-
-    by-holder :
-        (value : ℕ) (x : Holder) (before : ℕ) (write : Bool) → isHeldByOther q x ≡ false
-        → isHeldBy
-        p
-        (cond
-        write
-        (record {
-          value = c .value;
-          holder = taken q (record { value = value; holder = x; before = before }) .holder;
-          before = taken q (record { value = value; holder = x; before = before }) .before;
-        })
-        (taken q (record { value = value; holder = x; before = before }))
-        .holder)
-        ≡ (eqb q p || isHeldBy p x)
-    by-holder value Holder.Nobody before true f = sym (or-false (eqb q p))
-    by-holder value Holder.Nobody before false f = sym (or-false (eqb q p))
-    by-holder value (Holder.Slot r) before true f = own r f
-    by-holder value (Holder.Slot r) before false f = own r f
+LetsGo o left = (p : ℕ) → isHeldBy p left ≡ true → isHeldBy p o ≡ true
 
 -- ---- the four objects that a step looks at
 
@@ -93,14 +53,14 @@ AllLetGo os left = (i : ℕ) → i < 4 → LetsGo (getD os i pastObject) (getD l
 abbrev pub TakesIn : Call → ℕ → List Object → List Object → Type 0
 TakesIn c slot os left =
     (i p : ℕ) → i < 4
-    → isHeldBy p (getD left i pastObject .holder)
-    ≡ ((eqb slot p && eqb (c .object % 4) i) || isHeldBy p (getD os i pastObject .holder))
+    → isHeldBy p (getD left i pastObject)
+    ≡ ((eqb slot p && eqb (c .object % 4) i) || isHeldBy p (getD os i pastObject))
 
 told-lets-go : (told : Told) (p : ℕ) (os : List Object) → AllLetGo os (toldObjects told p os)
 told-lets-go (Told.Refresh q) p os i l = λ r e. e
 told-lets-go (Told.Terminate m) p os i l = λ r e. e
 told-lets-go Told.Prepare p os i l =
-    rw (each-at (freed p) os i l) (let-go-one p _ (getD os i pastObject))
+    rw (each-at (freed p) os i l) (λ r e. let-go-holder p r (freed p) (freed-lets-go p) (getD os i pastObject) e .0)
 
 closed-lets-go : (told : Told) (p clock : ℕ) (seen : Seen) → AllLetGo (seen .objects) (closed told p clock seen .objects)
 closed-lets-go told p clock seen =
@@ -120,13 +80,13 @@ swept-lets-go site slot seen =
     (isSwept seen)
     _
     seen
-    (λ i l. rw (each-at (restored slot) (seen .objects) i l) (let-go-one slot _ (getD (seen .objects) i pastObject)))
+    (λ i l. rw (each-at (restored slot) (seen .objects) i l) (λ r e. let-go-holder slot r (restored slot) (restored-lets-go slot) (getD (seen .objects) i pastObject) e .0))
     (λ i l r e. e)
 
 -- the objects seen are four
 called-takes :
     (t : Tables) (at : Places) (c : Call) (clock : ℕ)
-    → isHeldByOther (mailSlot (seenOf t at)) (calledObject c (seenOf t at) .holder) ≡ false
+    → isHeldByOther (mailSlot (seenOf t at)) (calledObject c (seenOf t at)) ≡ false
     → TakesIn c (mailSlot (seenOf t at)) (bankAt t (at .bank)) (called c clock (seenOf t at) .objects)
 called-takes t at c clock free i p l =
     let now : Object = operated c (taken (mailSlot (seenOf t at)) (calledObject c (seenOf t at))) in
@@ -134,7 +94,7 @@ called-takes t at c clock free i p l =
     (λ (y : i ≡ c .object % 4).
     rw
     (y, getD-set-same (bankAt t (at .bank)) (c .object % 4) now pastObject (omega arith), eq-eqb (c .object % 4) (c .object % 4) refl, and-true)
-    (take-one (mailSlot (seenOf t at)) p c (calledObject c (seenOf t at)) free))
+    (take-one (mailSlot (seenOf t at)) (calledObject c (seenOf t at)) p c free))
     (λ n.
     rw (getD-set-other (bankAt t (at .bank)) (c .object % 4) i now pastObject n, ne-eqb (c .object % 4) i (λ e. n (sym e)), and-false))
     (same-or-other i (c .object % 4))

@@ -7,7 +7,6 @@ use mathlib.Core.Bool.{true, _&&_, _||_}
 use lib.Dec.{eqb}
 use lib.ListN.{getD}
 use borrow.Author.Tests.{eq-eqb, ne-eqb}
-use Rattle.rules.specs.declared.tables.Object.{Object}
 use Rattle.rules.specs.declared.looking.Trip.{Trip}
 use Rattle.rules.specs.Tables.{pastObject, bankAt, objectSite}
 use Rattle.rules.specs.RangesLaws.{placed-places, placed-trip}
@@ -22,7 +21,7 @@ use Rattle.rules.specs.StoredObjects.{seen-object-at, object-after-stored, obje
 use Rattle.runs.specs.Types.{Call, Tables, Step, Outcome, Places, Seen}
 use Rattle.runs.specs.Walk.Put.{same-or-other}
 use Rattle.runs.specs.Walk.Steps.{accepted-turned}
-use Rattle.runs.specs.Walk.Sizes.{sized-head, sized-turn}
+use Rattle.runs.specs.Walk.Sound.{Sound, sound-head, sound-turn}
 use Rattle.runs.specs.Events.HoldSteps.{and-false, AllLetGo, TakesIn, TripAt, Took, LetGo, Idle, swept-lets-go}
 
 -- ---- the store
@@ -35,13 +34,13 @@ pub record LetsGoAt (site : ℕ) (t after : Tables) : Type 0 where
 module _ (t : Tables) (at : Places) (left : Seen) (z : Sized t) (h : Placed at) where
   inside :
       (p k : ℕ) → objectSite k ≡ at .bank
-      → isHolding (stored t at left) p k ≡ isHeldBy p (getD (left .objects) (k % 4) pastObject .holder)
-  inside p k e = ap (λ (o : Object). isHeldBy p (o .holder)) (object-after-stored t at left z h k e)
+      → isHolding (stored t at left) p k ≡ isHeldBy p (getD (left .objects) (k % 4) pastObject)
+  inside p k e = ap (isHeldBy p) (object-after-stored t at left z h k e)
 
   outside : (p k : ℕ) → objectSite k ≢ at .bank → isHolding (stored t at left) p k ≡ isHolding t p k
-  outside p k n = ap (λ (o : Object). isHeldBy p (o .holder)) (object-after-stored-other t at left k n)
+  outside p k n = ap (isHeldBy p) (object-after-stored-other t at left k n)
 
-  seen : (p k : ℕ) → objectSite k ≡ at .bank → isHeldBy p (getD (bankAt t (at .bank)) (k % 4) pastObject .holder) ≡ isHolding t p k
+  seen : (p k : ℕ) → objectSite k ≡ at .bank → isHeldBy p (getD (bankAt t (at .bank)) (k % 4) pastObject) ≡ isHolding t p k
   seen p k e =
       let q : k / 4 ≡ at .bank = e in
       let y : 4 * at .bank + k % 4 ≡ k = omega arith in
@@ -95,7 +94,7 @@ lets-go-on site t u v f g =
     }
 
 turn-lets-go :
-    (trip : Trip) (s slot : ℕ) (o : Outcome) → TripAt trip s → slot < 16 → Sized (o .tables)
+    (trip : Trip) (s slot : ℕ) (o : Outcome) → TripAt trip s → slot < 16 → Sound (o .tables)
     → LetsGoAt s (o .tables) (turnOf trip slot o .tables)
 unfolding crashedSlot
 turn-lets-go Trip.Nowhere s slot o at l z =
@@ -104,20 +103,20 @@ turn-lets-go (Trip.Sweep site) s slot o at l z =
     let places = tripPlaces (Trip.Sweep site) slot in
     rw
     (turn-stored (Trip.Sweep site) slot o, ← at)
-    (stored-lets-go (o .tables) places _ z (placed-trip (Trip.Sweep site) slot l) (swept-lets-go site slot (seenOf (o .tables) places)))
+    (stored-lets-go (o .tables) places _ (z .sized) (placed-trip (Trip.Sweep site) slot l) (swept-lets-go site slot (seenOf (o .tables) places)))
 turn-lets-go (Trip.Crash site) s slot o at l z =
     rw
     (turn-stored (Trip.Crash site) slot o, ← at)
-    (stored-lets-go (o .tables) (tripPlaces (Trip.Crash site) slot) _ z (placed-trip (Trip.Crash site) slot l) (λ i j p e. e))
+    (stored-lets-go (o .tables) (tripPlaces (Trip.Crash site) slot) _ (z .sized) (placed-trip (Trip.Crash site) slot l) (λ i j p e. e))
 
 turns-let-go :
-    (trip : Trip) (s : ℕ) (o : Outcome) (n : ℕ) → TripAt trip s → n ≤ 16 → Sized (o .tables)
-    → Sized (turnsUpTo trip o n .tables) × LetsGoAt s (o .tables) (turnsUpTo trip o n .tables)
+    (trip : Trip) (s : ℕ) (o : Outcome) (n : ℕ) → TripAt trip s → n ≤ 16 → Sound (o .tables)
+    → Sound (turnsUpTo trip o n .tables) × LetsGoAt s (o .tables) (turnsUpTo trip o n .tables)
 unfolding turnsUpTo
 turns-let-go trip s o zero at l z = (z, record { gained = λ p k e. e; away = λ p k n. refl })
 turns-let-go trip s o (suc n) at l z =
     let r = turns-let-go trip s o n at (omega arith) z in (
-      sized-turn trip n (turnsUpTo trip o n) (r .0),
+      sound-turn trip n (turnsUpTo trip o n) l (r .0),
       lets-go-on s (o .tables) (turnsUpTo trip o n .tables) _ (r .1) (turn-lets-go trip s n (turnsUpTo trip o n) at l (r .0)),
     )
 
@@ -137,7 +136,7 @@ abbrev pub leftBy : Tables → Step → Seen
 leftBy t step =
     decideOf step (foundOf t (placesOf t (lookOf step))) (seenOf t (placesOf t (lookOf step))) .left
 
-module _ (t : Tables) (step : Step) (z : Sized t) (a : isAccepted (stepOf t step .answer) ≡ true) where
+module _ (t : Tables) (step : Step) (z : Sound t) (a : isAccepted (stepOf t step .answer) ≡ true) where
   pub step-takes :
       (c : Call) → Took t step c (leftBy t step) → (p k : ℕ)
       → isHolding (stepOf t step .tables) p k
@@ -146,7 +145,7 @@ module _ (t : Tables) (step : Step) (z : Sized t) (a : isAccepted (stepOf t step
   step-takes c f p k =
       rw
       (no-turns t step (f .trip) a)
-      (stored-takes t (placesOf t (lookOf step)) (leftBy t step) z (placed-places t (lookOf step)) c (f .bank) (f .takes) p k)
+      (stored-takes t (placesOf t (lookOf step)) (leftBy t step) (z .sized) (placed-places t (lookOf step)) c (f .bank) (f .takes) p k)
 
   pub step-lets-go : LetGo t step (leftBy t step) → LetsGoAt (placesOf t (lookOf step) .site) t (stepOf t step .tables)
   unfolding headOf
@@ -161,7 +160,7 @@ module _ (t : Tables) (step : Step) (z : Sized t) (a : isAccepted (stepOf t step
       (subst
       (λ (x : ℕ). LetsGoAt x t (headOf t step .tables))
       (f .bank)
-      (stored-lets-go t (placesOf t (lookOf step)) (leftBy t step) z (placed-places t (lookOf step)) (f .lets-go)))
+      (stored-lets-go t (placesOf t (lookOf step)) (leftBy t step) (z .sized) (placed-places t (lookOf step)) (f .lets-go)))
       (turns-let-go
       (lookOf step .trip)
       (placesOf t (lookOf step) .site)
@@ -169,7 +168,7 @@ module _ (t : Tables) (step : Step) (z : Sized t) (a : isAccepted (stepOf t step
       _
       (f .trip)
       (turn-count-most (lookOf step .trip) _)
-      (sized-head t step z)
+      (sound-head t step z)
       .1))
 
   pub step-stays : Idle t step (leftBy t step) → (p k : ℕ) → isHolding (stepOf t step .tables) p k ≡ isHolding t p k
@@ -177,4 +176,4 @@ module _ (t : Tables) (step : Step) (z : Sized t) (a : isAccepted (stepOf t step
   step-stays f p k =
       rw
       (no-turns t step (f .trip) a)
-      (stored-stays t (placesOf t (lookOf step)) (leftBy t step) z (placed-places t (lookOf step)) (f .stays) p k)
+      (stored-stays t (placesOf t (lookOf step)) (leftBy t step) (z .sized) (placed-places t (lookOf step)) (f .stays) p k)

@@ -8,7 +8,6 @@ use mathlib.Core.List.{List}
 use lib.Dec.{eqb, ltb}
 use lib.ListN.{getD}
 use borrow.Author.Tests.{ltb-false}
-use Rattle.rules.specs.declared.tables.Holder.{Holder}
 use Rattle.rules.specs.declared.tables.Object.{Object}
 use Rattle.rules.specs.declared.looking.Trip.{Trip}
 use Rattle.rules.specs.declared.outcomes.Check.{Check}
@@ -17,19 +16,19 @@ use Rattle.rules.specs.LoopsLaws.{either, or-left, or-right}
 use Rattle.rules.specs.Tables.{pastObject, siteAt, passageAt, visitAt, messageAt, bankAt, objectSite, slotOf, noMessage}
 use Rattle.rules.specs.Answers.{isAccepted, firstOf, settleOf}
 use Rattle.rules.specs.AnswersLaws.{Fine, accepted-fine}
-use Rattle.rules.specs.Parts.{nextClock, isHeldByOther, freed, restored, eachOf, whereThere, askedVisit, toldVisit, toldObjects, askedOf, plainMessage, leftSite}
+use Rattle.rules.specs.Parts.{nextClock, isHeldBy, isHeldByOther, freed, restored, eachOf, whereThere, askedVisit, toldVisit, toldObjects, askedOf, plainMessage, leftSite}
 use Rattle.rules.specs.Checks.{badSite, badHandle}
 use Rattle.rules.specs.Rounds.{sentOut, roundTold, closed, openOf, closeOf}
 use Rattle.rules.specs.Calls.{callSite, badCall, mailClock, mailSlot, atHome, replyOf, askedAt, calledVisit, calledObject, called, invokeOf, emptyOf, deliverCallOf, deliverPhaseOneOf, deliverPhaseTwoOf, deliverAnswerOf, deliverBodyOf, lost, dropOf}
 use Rattle.rules.specs.Stations.{isSwept, losesHome, crashedVisit, sweptSlot, crashedSlot}
 use Rattle.rules.specs.Passages.{beginOf, abortOf, retired, retireOf}
 use Rattle.rules.specs.Machine.{seenOf, bodyBank, turnSeen}
-use Rattle.rules.specs.RangesLaws.{set-keeps-at}
+use Rattle.rules.specs.PartsLaws.{taken-holder, LetsGoOf, freed-lets-go, restored-lets-go, let-go-holder}
 use Rattle.rules.specs.StoredObjects.{each-at}
 use Rattle.runs.specs.Types.{Site, Kind, Visit, Call, Asked, Told, Body, Message, Tables, Places, Seen}
 use Rattle.runs.specs.Walk.Says.{bodyKind, calledOf}
+use Rattle.runs.specs.Walk.Put.{set-at}
 use Rattle.runs.specs.Kept.Times.{asked-says}
-use Rattle.runs.specs.Holders.Banks.{let-go-holder, taken-holder}
 use Rattle.runs.specs.Holders.HeldStore.{GoesHome, Held, Keeps}
 
 abbrev isCall : Body → Bool
@@ -82,7 +81,7 @@ module _ (t : Tables) (at : Places) (k : Held t) where
   -- the visit has let go of what it held at its site
   lets-go :
       (f : Object → Object) (left : Seen)
-      → ((o : Object) (q : ℕ) → f o .holder ≡ Holder.Slot q → (o .holder ≡ Holder.Slot q) × (q ≢ at .slot))
+      → LetsGoOf (at .slot) f
       → left .objects ≡ eachOf f (bankAt t (at .bank))
       → at .bank ≡ at .site
       → ((c : Call) → left .message .body ≡ Body.Call c → GoesHome (left .message) c)
@@ -90,19 +89,22 @@ module _ (t : Tables) (at : Places) (k : Held t) where
   lets-go f left law o b m =
       record {
         objects = λ i p l e. inl (was i p l e .0);
-        visit = λ e. inr (b, λ i l y. was i (at .slot) l y .1 refl);
+        visit = λ e. inr (b, λ i l. ⊎-elim (λ y. absurd (was i (at .slot) l y .1 refl)) (λ y. y) (either _));
         calls = m;
       }
     where
       was :
-          (i p : ℕ) → i < 4 → getD (left .objects) i pastObject .holder ≡ Holder.Slot p
-          → (getD (bankAt t (at .bank)) i pastObject .holder ≡ Holder.Slot p) × (p ≢ at .slot)
+          (i p : ℕ) → i < 4 → isHeldBy p (getD (left .objects) i pastObject) ≡ true
+          → (isHeldBy p (getD (bankAt t (at .bank)) i pastObject) ≡ true) × (p ≢ at .slot)
       was i p l e =
+          let-go-holder
+          (at .slot)
+          p
+          f
           law
           (getD (bankAt t (at .bank)) i pastObject)
-          p
-          (sym (ap (λ (x : Object). x .holder) (each-at f (bankAt t (at .bank)) i l))
-          ∙ sym (ap (λ (os : List Object). getD os i pastObject .holder) o)
+          (sym (ap (isHeldBy p) (each-at f (bankAt t (at .bank)) i l))
+          ∙ sym (ap (λ (os : List Object). isHeldBy p (getD os i pastObject)) o)
           ∙ e)
 
   -- a phase 2 part
@@ -114,7 +116,7 @@ module _ (t : Tables) (at : Places) (k : Held t) where
       → Keeps t at left
   told-keeps (Told.Refresh q) left v o b m = stays left o (λ e. sym (ap (λ (x : Visit). x .there) v) ∙ e) m
   told-keeps (Told.Terminate x) left v o b m = stays left o (λ e. sym (ap (λ (x : Visit). x .there) v) ∙ e) m
-  told-keeps Told.Prepare left v o b m = lets-go (freed (at .slot)) left (λ y q. let-go-holder (at .slot) q (y .value) y) o b m
+  told-keeps Told.Prepare left v o b m = lets-go (freed (at .slot)) left (freed-lets-go (at .slot)) o b m
 
   -- a close does it where the home visit is there
   closed-keeps : (told : Told) (clock : ℕ) → at .bank ≡ at .site → Keeps t at (closed told (at .slot) clock (seenOf t at))
@@ -127,16 +129,16 @@ module _ (t : Tables) (at : Places) (k : Held t) where
   -- a delivered call takes its object for the message's slot
   called-keeps :
       (c : Call) (clock : ℕ) → at .slot ≡ mailSlot (seenOf t at) → at .bank ≡ at .site
-      → isHeldByOther (mailSlot (seenOf t at)) (calledObject c (seenOf t at) .holder) ≡ false
+      → isHeldByOther (mailSlot (seenOf t at)) (calledObject c (seenOf t at)) ≡ false
       → Keeps t at (called c clock (seenOf t at))
   called-keeps c clock s b free =
       record {
         objects =
             λ i p l.
-            set-keeps-at
-            (λ (o : Object).
-            o .holder ≡ Holder.Slot p
-            → (getD (bankAt t (at .bank)) i pastObject .holder ≡ Holder.Slot p)
+            set-at
+            (λ j o.
+            isHeldBy p o ≡ true
+            → (isHeldBy p (getD (bankAt t (at .bank)) j pastObject) ≡ true)
             ⊎ ((p ≡ at .slot) × ((called c clock (seenOf t at) .visit .there ≡ true) × (at .bank ≡ at .site))))
             (bankAt t (at .bank))
             (c .object % 4)
@@ -144,7 +146,11 @@ module _ (t : Tables) (at : Places) (k : Held t) where
             _
             pastObject
             (λ e. inl e)
-            (λ e. inr (taken-holder (mailSlot (seenOf t at)) p c (calledObject c (seenOf t at)) free e ∙ sym s, (there, b)));
+            (λ e.
+            ⊎-elim
+            (λ y. inr (y ∙ sym s, (there, b)))
+            inl
+            (taken-holder (mailSlot (seenOf t at)) (calledObject c (seenOf t at)) p c free e));
         visit = λ e. absurd (true≢false (sym there ∙ e));
         calls = no-call noMessage refl;
       }
@@ -258,7 +264,7 @@ module _ (t : Tables) (at : Places) (k : Held t) where
   unfolding sweptSlot
   swept-keeps site b =
       ⊎-elim
-      (λ e. rw e (lets-go (restored (at .slot)) _ (λ o q. let-go-holder (at .slot) q (o .before) o) refl b call-stays))
+      (λ e. rw e (lets-go (restored (at .slot)) _ (restored-lets-go (at .slot)) refl b call-stays))
       (λ e. rw e seen-stays)
       (either (isSwept (seenOf t at)))
 

@@ -1,23 +1,24 @@
 -- In every run the passage that holds an object has a visit at the object's site, and every call in a message slot goes to its object's site.
 -- Assumes nothing.
 use Prim.Native.Nat.{ℕ, _<_}
-use mathlib.Core.Path.{_≡_, refl}
-use mathlib.Core.Bool.{true}
+use mathlib.Core.Path.{_≡_, refl, sym, _∙_}
+use mathlib.Core.Bool.{true, true≢false}
 use mathlib.Core.List.{List}
-use Rattle.rules.specs.declared.tables.Holder.{Holder}
 use Rattle.rules.specs.declared.tables.Object.{Object}
 use Rattle.rules.specs.declared.looking.Trip.{Trip}
 use Rattle.rules.specs.Tables.{pastObject, objectAt, visitAt, messageAt, objectSite, noObject, noMessage, pastMessage, start}
+use Rattle.rules.specs.Parts.{isUnheld}
+use Rattle.rules.specs.PartsLaws.{unheld-not-held, none-unheld}
 use Rattle.rules.specs.Rounds.{refreshOf, terminateOf, prepareOf, askOf, tellOf}
 use Rattle.rules.specs.Stations.{tickOf, sweepOf, crashOf, recoverOf}
 use Rattle.rules.specs.Machine.{lookOf, placesOf, seenOf, decideOf, headOf, tripPlaces, turnOf, stepOf}
 use Rattle.rules.specs.StoredLaws.{turn-stored}
 use Rattle.rules.specs.RangesLaws.{placed-places, placed-trip}
 use Rattle.rules.specs.Runs.{Started, start-started, runOf}
+use Rattle.rules.specs.Events.{isHolding}
 use Rattle.runs.specs.Types.{Call, Body, Message, Tables, Step, Outcome, Found}
 use Rattle.runs.specs.Walk.Plain.{repeat-has}
-use Rattle.runs.specs.Walk.Sizes.{step-holds, run-holds, sized-started}
-use Rattle.runs.specs.Holders.Banks.{nobody-holds}
+use Rattle.runs.specs.Walk.Sound.{step-holds, run-holds, sound-head, sound-turn, sound-started}
 use Rattle.runs.specs.Holders.HeldStore.{GoesHome, Held, Keeps, held-stored}
 use Rattle.runs.specs.Holders.HeldSteps.{no-call, station-keeps, begin-keeps, retire-keeps, drop-keeps, sent-keeps, invoke-keeps, open-keeps, abort-keeps, close-keeps, deliver-keeps, turned-keeps}
 
@@ -46,26 +47,32 @@ decided-keeps t (Step.Retire h) found k = retire-keeps t _ k h (found .remains)
 
 held-head : (t : Tables) (step : Step) → Held t → Held (headOf t step .tables)
 unfolding headOf
-held-head t step k = held-stored t _ _ k (placed-places t (lookOf step)) (decided-keeps t step _ k)
+held-head t step k = held-stored t _ _ k (placed-places t (lookOf step)) (decided-keeps t step _ k) (sound-head t step (k .sound))
 
 held-turn : (trip : Trip) (slot : ℕ) (o : Outcome) → slot < 16 → Held (o .tables) → Held (turnOf trip slot o .tables)
 held-turn trip slot o l k =
     rw
     (turn-stored trip slot o)
-    (held-stored (o .tables) (tripPlaces trip slot) _ k (placed-trip trip slot l) (turned-keeps (o .tables) (tripPlaces trip slot) k trip refl))
+    (held-stored (o .tables) (tripPlaces trip slot) _ k (placed-trip trip slot l) (turned-keeps (o .tables) (tripPlaces trip slot) k trip refl) (rw (turn-stored trip slot o) at (sound-turn trip slot o l (k .sound))))
 
 -- ---- the start, and every run
+
+start-unheld : (k : ℕ) → isUnheld (objectAt start k) ≡ true
+unfolding start
+start-unheld = repeat-has (λ (o : Object). isUnheld o ≡ true) 32 noObject pastObject (none-unheld .0) (none-unheld .1)
+
+pub started-unheld : {t₀ : Tables} → Started t₀ → (k : ℕ) → isUnheld (objectAt t₀ k) ≡ true
+started-unheld fresh k = rw (fresh .empty) (start-unheld k)
 
 -- nothing is held, and there is no message
 held-start : Held start
 unfolding start
 held-start =
     record {
-      sized = sized-started start-started;
+      sound = sound-started start-started;
       visits =
           λ j p l e.
-          absurd
-          (repeat-has (λ (o : Object). o .holder ≡ Holder.Slot p → ⊥) 32 noObject pastObject (nobody-holds p) (nobody-holds p) j e);
+          absurd (true≢false (sym e ∙ unheld-not-held p (objectAt start j) (start-unheld j)));
       calls =
           λ m c.
           repeat-has
@@ -92,7 +99,7 @@ held-run {t₀} fresh ss = held-from t₀ ss (held-started fresh)
 
 -- who holds an object has a visit at its site
 pub held-has-visit :
-    {t₀ : Tables} → Started t₀ → (ss : List Step) (k p : ℕ) → k < 32 → objectAt (runOf t₀ ss) k .holder ≡ Holder.Slot p
+    {t₀ : Tables} → Started t₀ → (ss : List Step) (k p : ℕ) → k < 32 → isHolding (runOf t₀ ss) p k ≡ true
     → (p < 16) × (visitAt (runOf t₀ ss) (objectSite k) p .there ≡ true)
 held-has-visit {t₀} fresh ss = held-run fresh ss .visits
 

@@ -2,21 +2,21 @@
 use Prim.Native.Nat.{ℕ, zero, suc, _+_, _-_, _<_, _≤_}
 use native.Mathlib.Omega.{arith}
 use mathlib.Core.Path.{_≡_, refl, sym, ap, _∙_}
-use mathlib.Core.Logic.{_≢_, inl}
+use mathlib.Core.Logic.{⊎-elim, inl}
 use mathlib.Core.Bool.{Bool, true, false, cond, true≢false, false≢true}
 use mathlib.Core.List.{List, [], _∷_}
 use Rattle.rules.specs.Loops.{mostUpTo}
-use Rattle.rules.specs.Tables.{siteAt, objectAt, passageAt, visitAt, messageAt, objectSite}
+use Rattle.rules.specs.LoopsLaws.{either}
+use Rattle.rules.specs.Tables.{siteAt, passageAt, visitAt, messageAt, objectSite}
 use Rattle.rules.specs.Answers.{isAccepted}
-use Rattle.rules.specs.StoredLaws.{Sized}
 use Rattle.rules.specs.Machine.{headOf, isMessageOf, stepOf}
 use Rattle.rules.specs.Runs.{Started, runOf, runRecordsOf, historyOf}
-use Rattle.rules.specs.declared.tables.Holder.{Holder}
+use Rattle.rules.specs.Events.{isHolding}
 use Rattle.runs.specs.Types.{Status, Told, Body, Message, Tables, Step}
 use Rattle.runs.specs.Walk.Says.{toldQuiesce, toldTime, bodyLatest, bodyAll}
 use Rattle.runs.specs.Times.View.{viewOf}
 use Rattle.runs.specs.Walk.Steps.{ghostRun, head-accepted, stepsOf, records-are-steps}
-use Rattle.runs.specs.Walk.Sizes.{sized-started, sized-run, sized-from, sized-step}
+use Rattle.runs.specs.Walk.Sound.{Sound, sound-started, sound-run, sound-from, sound-step}
 use Rattle.runs.specs.Holders.HeldStore.{Held}
 use Rattle.runs.specs.Holders.Holders.{held-run, held-step, held-from}
 use Rattle.runs.specs.Walk.Counted.{steps-drive}
@@ -32,7 +32,7 @@ use Rattle.runs.specs.Orphans.OrphansGone.{known-commit, known-watched, 
 -- "no visit and no held object" of the slot at the station
 pub record NothingLeft (t : Tables) (slot site : ℕ) : Type 0 where
   pub visit : visitAt t site slot .there ≡ false
-  pub object : (k : ℕ) → k < 32 → objectSite k ≡ site → objectAt t k .holder ≢ Holder.Slot slot
+  pub object : (k : ℕ) → k < 32 → objectSite k ≡ site → isHolding t slot k ≡ false
 
 -- what the demand says of a passage slot and a station, from the moment at which the tables are t, for this T
 pub record Released (t : Tables) (slot site T : ℕ) : Type 0 where
@@ -63,9 +63,11 @@ nothing-left t slot site h e =
     record {
       visit = e;
       object =
-          λ k i s held.
-          true≢false
-          (sym (h .visits k slot i held .1) ∙ ap (λ (x : ℕ). visitAt t x slot .there) s ∙ e);
+          λ k i s.
+          ⊎-elim
+          (λ held. absurd (true≢false (sym (h .visits k slot i held .1) ∙ ap (λ (x : ℕ). visitAt t x slot .there) s ∙ e)))
+          (λ free. free)
+          (either (isHolding t slot k));
     }
 
 -- ---- the smaller T is not above the larger
@@ -117,7 +119,7 @@ module _ {t₀ : Tables} (fresh : Started t₀) (before : List Step) (slot site 
 
   watch-before :
       Watch Latest site (ghostRun (knownHead slot) knownTurn t₀ before knownNothing) (viewOf Now slot)
-  watch-before = watch-run Latest site slot slots t₀ before knownNothing (sized-started fresh) (watch-started fresh Latest site slot) .1
+  watch-before = watch-run Latest site slot slots t₀ before knownNothing (sound-started fresh) (watch-started fresh Latest site slot) .1
 
   plain-now : Plain (viewOf Now slot)
   plain-now = watch-before .plain (inl (known-commit slot t₀ before knownNothing ∙ never))
@@ -145,11 +147,11 @@ module _ {t₀ : Tables} (fresh : Started t₀) (before : List Step) (slot site 
     abbrev Then-known : Known
     Then-known = ghostRun (knownHead slot) knownTurn (runOf t₀ before) after Watched
 
-    sized-then : Sized Then
-    sized-then = sized-from Now after (sized-run fresh before)
+    sound-then : Sound Then
+    sound-then = sound-from Now after (sound-run fresh before)
 
     watch-then : Watch Latest site Then-known (viewOf Then slot)
-    watch-then = watch-run Latest site slot slots Now after Watched (sized-run fresh before) watch-now .1
+    watch-then = watch-run Latest site slot slots Now after Watched (sound-run fresh before) watch-now .1
 
     watched-then : Then-known .watched ≡ true
     watched-then = known-watched slot Now after Watched refl still
@@ -161,7 +163,7 @@ module _ {t₀ : Tables} (fresh : Started t₀) (before : List Step) (slot site 
         (visitAt (headOf Then (Step.Sweep site) .tables) site slot)
     ripe =
         let k : Plain (viewOf (headOf Then (Step.Sweep site) .tables) slot) × Bounded Latest (viewOf (headOf Then (Step.Sweep site) .tables) slot) =
-        watch-head Latest site slot slots Then (Step.Sweep site) Then-known sized-then watch-then (head-accepted Then (Step.Sweep site) accepted) .watched
+        watch-head Latest site slot slots Then (Step.Sweep site) Then-known sound-then watch-then (head-accepted Then (Step.Sweep site) accepted) .watched
         (rw watched-then refl) in
         record {
           prepared = λ e. k .0 .visits site e;
@@ -169,12 +171,12 @@ module _ {t₀ : Tables} (fresh : Started t₀) (before : List Step) (slot site 
               λ e.
               let i : visitAt (headOf Then (Step.Sweep site) .tables) site slot .release ≤ Latest = k .1 .visits site e .1 in
               let j : siteAt Swept site .clock ≡ siteAt (headOf Then (Step.Sweep site) .tables) site .clock =
-              swept-clock site slot sites slots Then sized-then accepted in
+              swept-clock site slot sites slots Then sound-then accepted in
               omega arith;
         }
 
     gone-swept : visitAt Swept site slot .there ≡ false
-    gone-swept = swept-away site slot sites slots Then sized-then accepted ripe
+    gone-swept = swept-away site slot sites slots Then sound-then accepted ripe
 
     held-swept : Held Swept
     held-swept = held-step Then (Step.Sweep site) (held-from Now after (held-run fresh before))
@@ -193,7 +195,7 @@ module _ {t₀ : Tables} (fresh : Started t₀) (before : List Step) (slot site 
 
     watch-one : Watch Latest site (ghostRun (knownHead slot) knownTurn Then (Step.Sweep site ∷ []) Then-known) (viewOf Swept slot)
     unfolding runOf
-    watch-one = watch-run Latest site slot slots Then (Step.Sweep site ∷ []) Then-known sized-then watch-then .1
+    watch-one = watch-run Latest site slot slots Then (Step.Sweep site ∷ []) Then-known sound-then watch-then .1
 
     watch-cleared : Watch Latest site Cleared (viewOf Swept slot)
     watch-cleared =
@@ -212,7 +214,7 @@ module _ {t₀ : Tables} (fresh : Started t₀) (before : List Step) (slot site 
         slot
         site
         (held-from Swept later held-swept)
-        (watch-run Latest site slot slots Swept later Cleared (sized-step Then (Step.Sweep site) sized-then) watch-cleared .1 .cleared
+        (watch-run Latest site slot slots Swept later Cleared (sound-step Then (Step.Sweep site) sound-then) watch-cleared .1 .cleared
         (known-cleared slot Swept later Cleared)
         (known-watched slot Swept later Cleared refl n)
         .0)
@@ -224,7 +226,7 @@ module _ {t₀ : Tables} (fresh : Started t₀) (before : List Step) (slot site 
       → T ≤ siteAt (runOf (runOf (runOf t₀ before) after) later) site .clock
   drive T after later i =
       let d : siteAt (runOf Now after) site .clock + stepsAt site (historyOf (runOf Now after) later) ≤ siteAt (runOf (runOf Now after) later) site .clock =
-      steps-drive (runOf Now after) later site (sized-from Now after (sized-run fresh before)) in
+      steps-drive (runOf Now after) later site (sound-from Now after (sound-run fresh before)) in
       omega arith
 
   -- ---- demand 3, for the smaller T

@@ -24,10 +24,10 @@ use Rattle.rules.specs.StoredObjects.{seen-object-at, object-after-stored, obje
 use Rattle.rules.specs.Views.{settled, Objects, Mail, mailOf, deedOf}
 use Rattle.runs.specs.Types.{Kind, Call, Told, Body, Tables, Step, Outcome, Places, Seen, Found}
 use Rattle.runs.specs.Walk.Says.{isPrepare, tellsPrepare, carriesCommit}
-use Rattle.runs.specs.Walk.Put.{same-or-other}
-use Rattle.runs.specs.Walk.Sizes.{sized-step-has}
+use Rattle.runs.specs.Walk.Put.{same-or-other, set-at}
+use Rattle.runs.specs.Walk.Sound.{Sound, sound-step-has}
 use Rattle.runs.specs.Times.Ledgers.{seenAt}
-use Rattle.runs.specs.Orphans.Rests.{commits, Stands, Turned, stands-after-turned, standing-after-call, stands-after-freed, standing-after-restored, unheld-after-restored, set-at}
+use Rattle.runs.specs.Orphans.Rests.{commits, Stands, Turned, stands-after-turned, standing-after-call, stands-after-freed, standing-after-restored, unheld-after-restored}
 
 -- ---- the records that a step leaves
 
@@ -147,7 +147,7 @@ module _ (P : Object → Object → Type 0) (same : (o : Object) → P o o) (t :
           (four (k % 4) (omega arith)))
 
 head-stands :
-    (t : Tables) (step : Step) → Sized t → (k : ℕ)
+    (t : Tables) (step : Step) → Sound t → (k : ℕ)
     → Stands (commits step (seenAt t step)) (objectAt t k) (objectAt (headOf t step .tables) k)
 unfolding headOf
 head-stands t step z =
@@ -157,7 +157,7 @@ head-stands t step z =
     t
     (placesOf t (lookOf step))
     _
-    z
+    (z .sized)
     (placed-places t (lookOf step))
     (decided-stand step _ (seenAt t step))
 
@@ -181,7 +181,7 @@ seen-turned (Trip.Sweep site) slot seen i l =
 seen-turned (Trip.Crash site) slot seen i l = (refl, λ u. refl)
 
 turn-turned :
-    (trip : Trip) (slot : ℕ) (o : Outcome) → slot < 16 → Sized (o .tables) → (k : ℕ)
+    (trip : Trip) (slot : ℕ) (o : Outcome) → slot < 16 → Sound (o .tables) → (k : ℕ)
     → Turned (objectAt (o .tables) k) (objectAt (turnOf trip slot o .tables) k)
 turn-turned trip slot o l z k =
     rw
@@ -192,7 +192,7 @@ turn-turned trip slot o l z k =
     (o .tables)
     (tripPlaces trip slot)
     _
-    z
+    (z .sized)
     (placed-trip trip slot l)
     (seen-turned trip slot (seenOf (o .tables) (tripPlaces trip slot)))
     k)
@@ -200,11 +200,11 @@ turn-turned trip slot o l z k =
 -- ---- so through all turns, and for every step, accepted or not
 
 pub step-stands :
-    (t : Tables) (step : Step) → Sized t → (k : ℕ)
+    (t : Tables) (step : Step) → Sound t → (k : ℕ)
     → Stands (commits step (seenAt t step)) (objectAt t k) (objectAt (stepOf t step .tables) k)
 step-stands t step z k =
     let commit : Bool = commits step (seenAt t step) in
-    sized-step-has
+    sound-step-has
     t
     step
     z

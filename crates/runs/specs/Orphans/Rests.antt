@@ -1,17 +1,16 @@
 -- The width of an object at rest, kept along a run: the value that it had when nobody held it last. And what a change of one object does to it.
 -- The idea: the tables know it too, as the value while nobody holds the object and as the value before while someone does. Assumes nothing.
 use Rattle.rules.specs.Record.{isStep}
-use Prim.Native.Nat.{ℕ, zero, suc}
-use mathlib.Core.Path.{_≡_, refl, ap, _∙_}
-use mathlib.Core.Logic.{_⊎_, inl, inr}
-use mathlib.Core.Bool.{Bool, true, false, cond, false≢true, _&&_}
+use Prim.Native.Nat.{ℕ}
+use mathlib.Core.Path.{_≡_, refl, sym, ap, _∙_}
+use mathlib.Core.Logic.{_⊎_, inl, inr, ⊎-elim}
+use mathlib.Core.Bool.{Bool, true, false, cond, _&&_}
 use mathlib.Core.List.{List, [], _∷_}
-use lib.Dec.{eqb}
-use lib.ListN.{getD, set}
-use Rattle.rules.specs.declared.tables.Holder.{Holder}
 use Rattle.rules.specs.declared.tables.Object.{Object}
+use Rattle.rules.specs.LoopsLaws.{either}
 use Rattle.rules.specs.Tables.{objectAt}
-use Rattle.rules.specs.Parts.{isUnheld, taken, operated, unheld, freed, restored}
+use Rattle.rules.specs.Parts.{isUnheld, isHeldBy, taken, operated, unheld, freed, restored}
+use Rattle.rules.specs.PartsLaws.{unheld-not-held, held-not-unheld, let-go-unheld, before-of-called, called-not-unheld, freed-held, freed-other, restored-other}
 use Rattle.rules.specs.Machine.{stepOf}
 use Rattle.runs.specs.Types.{Call, Tables, Step, Seen}
 use Rattle.runs.specs.Walk.Says.{isPrepare, carriesCommit}
@@ -20,7 +19,7 @@ use Rattle.runs.specs.Walk.Says.{isPrepare, carriesCommit}
 
 -- in these tables nobody holds object k
 abbrev pub isAtRest : Tables → ℕ → Bool
-isAtRest t k = isUnheld (objectAt t k .holder)
+isAtRest t k = isUnheld (objectAt t k)
 
 -- the width at rest once a step has left these tables: the object's value where nobody holds it, else what it was
 abbrev pub restAfter : Tables → ℕ → ℕ → ℕ
@@ -49,10 +48,13 @@ commits step seen =
 -- ---- the width that stands, read off one object
 
 abbrev pub standing : Object → ℕ
-standing o = cond (isUnheld (o .holder)) (o .value) (o .before)
+standing o = cond (isUnheld o) (o .value) (o .before)
 
-pub standing-unheld : (o : Object) → isUnheld (o .holder) ≡ true → standing o ≡ o .value
+pub standing-unheld : (o : Object) → isUnheld o ≡ true → standing o ≡ o .value
 standing-unheld o e = rw e
+
+standing-held : (o : Object) → isUnheld o ≡ false → standing o ≡ o .before
+standing-held o e = rw e
 
 -- what one store does to an object: the width that stands stays, or a commit frees the object with the value that it has
 abbrev pub Stands : Bool → Object → Object → Type 0
@@ -60,85 +62,37 @@ Stands commit o left = (standing left ≡ standing o) ⊎ ((commit ≡ true) × 
 
 -- what a turn of a sweep or a crash does: the width that stands stays, and an object that nobody holds stays as it is
 abbrev pub Turned : Object → Object → Type 0
-Turned o left = (standing left ≡ standing o) × (isUnheld (o .holder) ≡ true → left ≡ o)
+Turned o left = (standing left ≡ standing o) × (isUnheld o ≡ true → left ≡ o)
 
 -- a turn after the store
 pub stands-after-turned : (commit : Bool) (o left last : Object) → Stands commit o left → Turned left last → Stands commit o last
 stands-after-turned commit o left last (inl e) w = inl (w .0 ∙ e)
-stands-after-turned commit o left last (inr (c, e)) w = inr (c, w .1 (ap (λ (x : Object). isUnheld (x .holder)) e) ∙ e)
+stands-after-turned commit o left last (inr (c, e)) w = inr (c, w .1 (ap isUnheld e ∙ let-go-unheld (o .value)) ∙ e)
 
 -- ---- what each change of an object does
 
 -- "The object is taken if unheld, then read or written": the value before is saved once
 pub standing-after-call : (p : ℕ) (c : Call) (o : Object) → standing (operated c (taken p o)) ≡ standing o
-standing-after-call p c o = by-holder (o .value) (o .holder) (o .before) (c .write)
-  where
-    by-holder :
-        (value : ℕ) (x : Holder) (before : ℕ) (write : Bool)
-        → standing
-        (cond
-        write
-        (record {
-          value = c .value;
-          holder = taken p (record { value = value; holder = x; before = before }) .holder;
-          before = taken p (record { value = value; holder = x; before = before }) .before;
-        })
-        (taken p (record { value = value; holder = x; before = before })))
-        ≡ standing (record { value = value; holder = x; before = before })
-    by-holder value Holder.Nobody before true = refl
-    by-holder value Holder.Nobody before false = refl
-    by-holder value (Holder.Slot q) before true = refl
-    by-holder value (Holder.Slot q) before false = refl
+standing-after-call p c o = standing-held (operated c (taken p o)) (called-not-unheld p o c) ∙ before-of-called p o c
 
 -- "its objects are freed and keep their values": a commit lets the new width stand
 pub stands-after-freed : (p : ℕ) (o : Object) → Stands true o (freed p o)
-stands-after-freed p o = by-holder (o .value) (o .holder) (o .before)
-  where
-    by-holder :
-        (value : ℕ) (x : Holder) (before : ℕ)
-        → Stands true (record { value = value; holder = x; before = before }) (freed p (record { value = value; holder = x; before = before }))
-    by-holder value Holder.Nobody before = inl refl
-    by-holder value (Holder.Slot q) before = by-slot (eqb q p)
-      where
-        by-slot :
-            (b : Bool)
-            → Stands
-            true
-            (record { value = value; holder = Holder.Slot q; before = before })
-            (cond b (unheld value) (record { value = value; holder = Holder.Slot q; before = before }))
-        by-slot true = inr (refl, refl)
-        by-slot false = inl refl
+stands-after-freed p o =
+    ⊎-elim
+    (λ e. inr (refl, freed-held p o e))
+    (λ e. inl (ap standing (freed-other p o e)))
+    (either (isHeldBy p o))
 
 -- "restores and frees its objects": what was written is undone
 pub standing-after-restored : (p : ℕ) (o : Object) → standing (restored p o) ≡ standing o
-standing-after-restored p o = by-holder (o .value) (o .holder) (o .before)
-  where
-    by-holder :
-        (value : ℕ) (x : Holder) (before : ℕ)
-        → standing (restored p (record { value = value; holder = x; before = before }))
-        ≡ standing (record { value = value; holder = x; before = before })
-    by-holder value Holder.Nobody before = refl
-    by-holder value (Holder.Slot q) before = by-slot (eqb q p)
-      where
-        by-slot :
-            (b : Bool)
-            → standing (cond b (unheld before) (record { value = value; holder = Holder.Slot q; before = before })) ≡ before
-        by-slot true = refl
-        by-slot false = refl
+standing-after-restored p o =
+    ⊎-elim
+    (λ e.
+    let back : restored p o ≡ unheld (o .before) = rw e in
+    ap standing back ∙ standing-unheld (unheld (o .before)) (let-go-unheld (o .before)) ∙ sym (standing-held o (held-not-unheld p o e)))
+    (λ e. ap standing (restored-other p o e))
+    (either (isHeldBy p o))
 
 -- an object that nobody holds has nothing to restore
-pub unheld-after-restored : (p : ℕ) (o : Object) → isUnheld (o .holder) ≡ true → restored p o ≡ o
-unheld-after-restored p o = by-holder (o .holder) refl
-  where
-    by-holder : (x : Holder) → o .holder ≡ x → isUnheld x ≡ true → restored p o ≡ o
-    by-holder Holder.Nobody e u = rw e
-    by-holder (Holder.Slot q) e u = absurd (false≢true u)
-
--- ---- one element of a list is replaced: what holds of it at its place, and of each other at its own, holds after it
-
-pub set-at : {A : Type 0} (P : ℕ → A → Type 0) (l : List A) (i j : ℕ) (a d : A) → P j (getD l j d) → P i a → P j (getD (set l i a) j d)
-set-at P [] i j a d h k = h
-set-at P (x ∷ xs) zero zero a d h k = k
-set-at P (x ∷ xs) zero (suc j) a d h k = h
-set-at P (x ∷ xs) (suc i) zero a d h k = h
-set-at P (x ∷ xs) (suc i) (suc j) a d h k = set-at (λ n. P (suc n)) xs i j a d h k
+pub unheld-after-restored : (p : ℕ) (o : Object) → isUnheld o ≡ true → restored p o ≡ o
+unheld-after-restored p o u = restored-other p o (unheld-not-held p o u)

@@ -10,14 +10,14 @@ use borrow.Author.Tests.{leb-false}
 use Rattle.rules.specs.LoopsLaws.{either, cond-keeps}
 use Rattle.rules.specs.Tables.{siteAt, visitAt}
 use Rattle.rules.specs.Answers.{isAccepted}
-use Rattle.rules.specs.StoredLaws.{Sized, turn-stored, visit-place-same, site-after-stored, visit-after-stored, visit-after-stored-other}
+use Rattle.rules.specs.StoredLaws.{turn-stored, visit-place-same, site-after-stored, visit-after-stored, visit-after-stored-other}
 use Rattle.rules.specs.RangesLaws.{placed-trip}
 use Rattle.rules.specs.Stations.{isSwept, sweptSlot}
 use Rattle.rules.specs.Machine.{seenOf, stored, headOf, tripPlaces, turnOf, stepOf}
 use Rattle.rules.specs.declared.looking.Trip.{Trip}
 use Rattle.runs.specs.Types.{Site, Visit, Tables, Step, Places, Outcome, Seen}
 use Rattle.runs.specs.Walk.Put.{same-or-other}
-use Rattle.runs.specs.Walk.Sizes.{sized-accepted-has}
+use Rattle.runs.specs.Walk.Sound.{Sound, sound-accepted-has}
 use Rattle.runs.specs.Walk.Clocks.{turned-site}
 use Rattle.runs.specs.Walk.Steps.{turnsOf, head-accepted}
 
@@ -56,7 +56,7 @@ module _ (site p : ℕ) (place : site < 8) (slot : p < 16) where
 
   -- one turn keeps the station's clock, and the slot's visit but in its own turn
   turn-clock :
-      (n : ℕ) (o : Outcome) → n < 16 → Sized (o .tables)
+      (n : ℕ) (o : Outcome) → n < 16 → Sound (o .tables)
       → siteAt (turnOf (Trip.Sweep site) n o .tables) site .clock ≡ siteAt (o .tables) site .clock
   turn-clock n o i z =
       let at : Places = tripPlaces (Trip.Sweep site) n in
@@ -67,7 +67,7 @@ module _ (site p : ℕ) (place : site < 8) (slot : p < 16) where
       same-place
       (ap
       (λ (x : Site). x .clock)
-      (site-after-stored (o .tables) at _ z (placed-trip (Trip.Sweep site) n i)
+      (site-after-stored (o .tables) at _ (z .sized) (placed-trip (Trip.Sweep site) n i)
       ∙ turned-site (Trip.Sweep site) n (seenOf (o .tables) at))))
 
   turn-other :
@@ -84,7 +84,7 @@ module _ (site p : ℕ) (place : site < 8) (slot : p < 16) where
       (λ e. m (sym (visit-place-same site p (site % 8) n slot i e .1))))
 
   turn-own :
-      (o : Outcome) → Sized (o .tables) → Ripe (siteAt (o .tables) site .clock) (visitAt (o .tables) site p)
+      (o : Outcome) → Sound (o .tables) → Ripe (siteAt (o .tables) site .clock) (visitAt (o .tables) site p)
       → visitAt (turnOf (Trip.Sweep site) p o .tables) site p .there ≡ false
   turn-own o z r =
       let at : Places = tripPlaces (Trip.Sweep site) p in
@@ -93,7 +93,7 @@ module _ (site p : ℕ) (place : site < 8) (slot : p < 16) where
       (subst
       (λ (x : ℕ). visitAt (stored (o .tables) at (sweptSlot site p (seenOf (o .tables) at))) x p .there ≡ false)
       same-place
-      (ap (λ (v : Visit). v .there) (visit-after-stored (o .tables) at _ z (placed-trip (Trip.Sweep site) p slot))
+      (ap (λ (v : Visit). v .there) (visit-after-stored (o .tables) at _ (z .sized) (placed-trip (Trip.Sweep site) p slot))
       ∙ ripe-goes
       site
       p
@@ -107,7 +107,7 @@ module _ (site p : ℕ) (place : site < 8) (slot : p < 16) where
 
   -- one turn more
   turn-after :
-      (t : Tables) → Ripe (siteAt t site .clock) (visitAt t site p) → (n : ℕ) (o : Outcome) → n < 16 → Sized (o .tables)
+      (t : Tables) → Ripe (siteAt t site .clock) (visitAt t site p) → (n : ℕ) (o : Outcome) → n < 16 → Sound (o .tables)
       → After t n (o .tables)
       → After t (suc n) (turnOf (Trip.Sweep site) n o .tables)
   turn-after t r n o i z k =
@@ -137,10 +137,10 @@ module _ (site p : ℕ) (place : site < 8) (slot : p < 16) where
 
   -- so an accepted sweep leaves the clock that its own store has moved
   pub swept-clock :
-      (t : Tables) → Sized t → isAccepted (stepOf t (Step.Sweep site) .answer) ≡ true
+      (t : Tables) → Sound t → isAccepted (stepOf t (Step.Sweep site) .answer) ≡ true
       → siteAt (stepOf t (Step.Sweep site) .tables) site .clock ≡ siteAt (headOf t (Step.Sweep site) .tables) site .clock
   swept-clock t z e =
-      sized-accepted-has
+      sound-accepted-has
       t
       (Step.Sweep site)
       z
@@ -151,7 +151,7 @@ module _ (site p : ℕ) (place : site < 8) (slot : p < 16) where
 
   -- an accepted sweep leaves no visit of the slot at the station, if the visit was ripe once the clock had moved
   pub swept-away :
-      (t : Tables) → Sized t → isAccepted (stepOf t (Step.Sweep site) .answer) ≡ true
+      (t : Tables) → Sound t → isAccepted (stepOf t (Step.Sweep site) .answer) ≡ true
       → Ripe (siteAt (headOf t (Step.Sweep site) .tables) site .clock) (visitAt (headOf t (Step.Sweep site) .tables) site p)
       → visitAt (stepOf t (Step.Sweep site) .tables) site p .there ≡ false
   swept-away t z e r =
@@ -163,7 +163,7 @@ module _ (site p : ℕ) (place : site < 8) (slot : p < 16) where
           (turnsOf t (Step.Sweep site))
           (stepOf t (Step.Sweep site) .tables)
       through =
-          sized-accepted-has
+          sound-accepted-has
           t
           (Step.Sweep site)
           z

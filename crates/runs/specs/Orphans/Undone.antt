@@ -5,19 +5,18 @@ use mathlib.Core.Path.{_≡_, refl, sym, ap, _∙_}
 use mathlib.Core.Logic.{_≢_, inl, inr, ⊎-elim}
 use mathlib.Core.Bool.{true, false, false≢true}
 use mathlib.Core.List.{List, [], _∷_, _++_}
-use Rattle.rules.specs.declared.tables.Object.{Object}
 use Rattle.rules.specs.LoopsLaws.{either}
-use Rattle.rules.specs.Tables.{objectAt, pastObject, noObject, start}
+use Rattle.rules.specs.Tables.{objectAt}
 use Rattle.rules.specs.Answers.{isAccepted}
 use Rattle.rules.specs.Parts.{isUnheld}
-use Rattle.rules.specs.StoredLaws.{Sized}
+use Rattle.rules.specs.PartsLaws.{let-go-unheld}
 use Rattle.rules.specs.Machine.{stepOf}
 use Rattle.rules.specs.RefusedLaws.{refused-leaves}
 use Rattle.rules.specs.Runs.{Started, runOf}
 use Rattle.runs.specs.Types.{Tables, Step}
 use Rattle.runs.specs.Walk.Steps.{run-on}
-use Rattle.runs.specs.Walk.Sizes.{sized-started, sized-step, sized-run}
-use Rattle.runs.specs.Walk.Plain.{repeat-has}
+use Rattle.runs.specs.Walk.Sound.{Sound, sound-started, sound-step, sound-run}
+use Rattle.runs.specs.Holders.Holders.{started-unheld}
 use Rattle.runs.specs.Times.Ledgers.{seenAt}
 use Rattle.runs.specs.Orphans.Rests.{isAtRest, restAfter, restFrom, restOf, HeldThrough, commits, standing, standing-unheld, Stands}
 use Rattle.runs.specs.Orphans.RestSteps.{step-stands}
@@ -26,7 +25,7 @@ use Rattle.runs.specs.Orphans.RestSteps.{step-stands}
 
 -- one step: an object that is held after it has the saved value that it had, or had just been taken with its value
 rest-step :
-    (t : Tables) (s : Step) (k rest : ℕ) → Sized t → rest ≡ standing (objectAt t k)
+    (t : Tables) (s : Step) (k rest : ℕ) → Sound t → rest ≡ standing (objectAt t k)
     → restAfter (stepOf t s .tables) k rest ≡ standing (objectAt (stepOf t s .tables) k)
 rest-step t s k rest z e =
     ⊎-elim
@@ -39,28 +38,24 @@ rest-step t s k rest z e =
         → Stands (commits s (seenAt t s)) (objectAt t k) (objectAt (stepOf t s .tables) k)
         → rest ≡ objectAt (stepOf t s .tables) k .before
     held q (inl stands) = e ∙ sym stands ∙ (rw q)
-    held q (inr (c, free)) = absurd (false≢true (sym q ∙ ap (λ (o : Object). isUnheld (o .holder)) free))
+    held q (inr (c, free)) = absurd (false≢true (sym q ∙ ap isUnheld free ∙ let-go-unheld (objectAt t k .value)))
 
 rest-from :
-    (t : Tables) (ss : List Step) (k rest : ℕ) → Sized t → rest ≡ standing (objectAt t k)
+    (t : Tables) (ss : List Step) (k rest : ℕ) → Sound t → rest ≡ standing (objectAt t k)
     → restFrom t ss k rest ≡ standing (objectAt (runOf t ss) k)
 unfolding restFrom runOf
 rest-from t [] k rest z e = e
 rest-from t (s ∷ ss) k rest z e =
-    rest-from (stepOf t s .tables) ss k (restAfter (stepOf t s .tables) k rest) (sized-step t s z) (rest-step t s k rest z e)
+    rest-from (stepOf t s .tables) ss k (restAfter (stepOf t s .tables) k rest) (sound-step t s z) (rest-step t s k rest z e)
 
 -- at the start nobody holds any
-start-at-rest : (k : ℕ) → isAtRest start k ≡ true
-unfolding start
-start-at-rest = repeat-has (λ (o : Object). isUnheld (o .holder) ≡ true) 32 noObject pastObject refl refl
-
 started-at-rest : {t₀ : Tables} → Started t₀ → (k : ℕ) → isAtRest t₀ k ≡ true
-started-at-rest fresh k = rw (fresh .empty) (start-at-rest k)
+started-at-rest = started-unheld
 
 pub rest-stands : {t₀ : Tables} → Started t₀ → (ss : List Step) (k : ℕ) → restOf t₀ ss k ≡ standing (objectAt (runOf t₀ ss) k)
 unfolding restOf
 rest-stands {t₀} fresh ss k =
-    rest-from t₀ ss k (objectAt t₀ k .value) (sized-started fresh) (sym (standing-unheld (objectAt t₀ k) (started-at-rest fresh k)))
+    rest-from t₀ ss k (objectAt t₀ k .value) (sound-started fresh) (sym (standing-unheld (objectAt t₀ k) (started-at-rest fresh k)))
 
 -- so an object that is held has it as its value before
 pub before-is-rest :
@@ -104,7 +99,7 @@ only-commits-change {t₀} fresh ss s k changed =
     }
   where
     stands : Stands (commits s (seenAt (runOf t₀ ss) s)) (objectAt (runOf t₀ ss) k) (objectAt (stepOf (runOf t₀ ss) s .tables) k)
-    stands = step-stands (runOf t₀ ss) s (sized-run fresh ss) k
+    stands = step-stands (runOf t₀ ss) s (sound-run fresh ss) k
 
     same :
         standing (objectAt (stepOf (runOf t₀ ss) s .tables) k) ≡ standing (objectAt (runOf t₀ ss) k)
@@ -122,7 +117,7 @@ rest-after-sweep {t₀} fresh ss site k free =
     ∙ ⊎-elim
     (λ e. e)
     (λ e. absurd (false≢true (e .0)))
-    (step-stands (runOf t₀ ss) (Step.Sweep site) (sized-run fresh ss) k)
+    (step-stands (runOf t₀ ss) (Step.Sweep site) (sound-run fresh ss) k)
     ∙ sym (rest-stands fresh ss k)
 
 -- while an object is held its width at rest stays

@@ -16,14 +16,14 @@ use Rattle.rules.specs.Passages.{beginOf, beginDone, abortOf, abortDone, retire
 use Rattle.rules.specs.Rounds.{refreshOf, terminateOf, prepareOf, openOf, openDone, askOf, askDone, closeOf, closeDone, tellOf, tellDone}
 use Rattle.rules.specs.Calls.{invokeOf, invokeDone, dropOf, dropDone}
 use Rattle.rules.specs.Machine.{lookOf, placesOf, seenOf, remains, decideOf, headOf, tripPlaces, turnOf, foundOf}
-use Rattle.rules.specs.StoredLaws.{Sized, turn-stored}
+use Rattle.rules.specs.StoredLaws.{turn-stored}
 use Rattle.rules.specs.RangesLaws.{placed-places, placed-trip}
 use Rattle.rules.specs.Runs.{Started, runOf}
 use Rattle.runs.specs.Types.{Kind, Status, Passage, Body, Tables, Step, Places, Seen, Decision, Outcome}
 use Rattle.runs.specs.Walk.Plain.{repeat-has}
 use Rattle.runs.specs.Times.View.{mailOf, viewOf}
 use Rattle.runs.specs.Walk.Steps.{ghostRun, run-keeps}
-use Rattle.runs.specs.Walk.Sizes.{sized-head, sized-turn}
+use Rattle.runs.specs.Walk.Sound.{Sound, sound-head, sound-turn}
 use Rattle.runs.specs.Times.Ledgers.{placesAt, seenAt}
 use Rattle.runs.specs.Orphans.Watch.{Known, Watch}
 use Rattle.runs.specs.Orphans.WatchKept.{Follows, follows-same, watch-unwatched, plain-free, aborted-free}
@@ -59,7 +59,7 @@ module _ (latest site : ℕ) (t : Tables) (g : Known) where
   settled-guards at next d e x = rw e x
 
   decided-guards :
-      (step : Step) → Sized t
+      (step : Step) → Sound t
       → isAccepted
       (decideOf step (foundOf t (placesAt t step)) (seenAt t step) .answer)
       ≡ true
@@ -103,13 +103,13 @@ module _ (latest site : ℕ) (t : Tables) (g : Known) where
   decided-guards (Step.Recover a) z e =
       settled-keeps (placesAt t (Step.Recover a)) (recoverDone a (seenAt t (Step.Recover a))) e (site-keeps latest t (placesAt t (Step.Recover a)) _ (omega arith))
   decided-guards (Step.Retire h) z e =
-      settled-guards (placesAt t (Step.Retire h)) _ (retireDone h (remains t (placesAt t (Step.Retire h) .slot)) (seenAt t (Step.Retire h))) e (retire-guards latest site t (placesAt t (Step.Retire h)) g h z refl (accepted-fine _ _ e))
+      settled-guards (placesAt t (Step.Retire h)) _ (retireDone h (remains t (placesAt t (Step.Retire h) .slot)) (seenAt t (Step.Retire h))) e (retire-guards latest site t (placesAt t (Step.Retire h)) g h (z .sized) refl (accepted-fine _ _ e))
 
 -- ---- so the invariant is kept, for any slot, any latest time and any site
 
 module _ (latest site p : ℕ) (place : p < 16) where
   pub watch-head :
-      (t : Tables) (step : Step) (g : Known) → Sized t → Watch latest site g (viewOf t p)
+      (t : Tables) (step : Step) (g : Known) → Sound t → Watch latest site g (viewOf t p)
       → isAccepted (headOf t step .answer) ≡ true
       → Watch latest site (knownHead p t step g) (viewOf (headOf t step .tables) p)
   unfolding headOf
@@ -122,7 +122,7 @@ module _ (latest site p : ℕ) (place : p < 16) where
       g
       (λ q. knownHead q t step g)
       _
-      z
+      (z .sized)
       (placed-places t (lookOf step))
       (decided-guards latest site t g step z e)
       p
@@ -130,7 +130,7 @@ module _ (latest site p : ℕ) (place : p < 16) where
       k
 
   pub watch-turn :
-      (trip : Trip) (slot : ℕ) (o : Outcome) (g : Known) → slot < 16 → Sized (o .tables)
+      (trip : Trip) (slot : ℕ) (o : Outcome) (g : Known) → slot < 16 → Sound (o .tables)
       → Watch latest site g (viewOf (o .tables) p)
       → Watch latest site g (viewOf (turnOf trip slot o .tables) p)
   watch-turn trip slot o g i z k =
@@ -144,7 +144,7 @@ module _ (latest site p : ℕ) (place : p < 16) where
       g
       (λ q. g)
       _
-      z
+      (z .sized)
       (placed-trip trip slot i)
       (keeps-guards latest site (o .tables) (tripPlaces trip slot) g (λ q. g) _ (λ q. follows-same g) (turned-keeps latest (o .tables) trip slot))
       p
@@ -152,15 +152,15 @@ module _ (latest site p : ℕ) (place : p < 16) where
       k)
 
   pub watch-run :
-      (t : Tables) (us : List Step) (g : Known) → Sized t → Watch latest site g (viewOf t p)
-      → Sized (runOf t us) × Watch latest site (ghostRun (knownHead p) knownTurn t us g) (viewOf (runOf t us) p)
+      (t : Tables) (us : List Step) (g : Known) → Sound t → Watch latest site g (viewOf t p)
+      → Sound (runOf t us) × Watch latest site (ghostRun (knownHead p) knownTurn t us g) (viewOf (runOf t us) p)
   watch-run t us g z k =
       run-keeps
       (knownHead p)
       knownTurn
-      (λ u h. Sized u × Watch latest site h (viewOf u p))
-      (λ u s h x e. (sized-head u s (x .0), watch-head u s h (x .0) (x .1) e))
-      (λ trip slot o h i x. (sized-turn trip slot o (x .0), watch-turn trip slot o h i (x .0) (x .1)))
+      (λ u h. Sound u × Watch latest site h (viewOf u p))
+      (λ u s h x e. (sound-head u s (x .0), watch-head u s h (x .0) (x .1) e))
+      (λ trip slot o h i x. (sound-turn trip slot o i (x .0), watch-turn trip slot o h i (x .0) (x .1)))
       t
       us
       g

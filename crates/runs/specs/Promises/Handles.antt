@@ -27,7 +27,7 @@ use Rattle.rules.specs.Views.{Generation, Handle, deedOf}
 use Rattle.runs.specs.Types.{Passage, Tables, Step, Places, Seen, Outcome, Found}
 use Rattle.runs.specs.Walk.Put.{same-or-other}
 use Rattle.runs.specs.Walk.Steps.{accepted-turned, head-accepted, run-on}
-use Rattle.runs.specs.Walk.Sizes.{sized-started, sized-run, sized-step, sized-accepted-has}
+use Rattle.runs.specs.Walk.Sound.{Sound, sound-started, sound-run, sound-step, sound-accepted-has}
 use Rattle.runs.specs.Walk.Plain.{repeat-has}
 use Rattle.runs.specs.Orphans.Orphans.{retires}
 
@@ -104,13 +104,13 @@ stored-generation t at left z h f own other p =
     (same-or-other p (at .slot))
 
 head-generation :
-    (t : Tables) (step : Step) → Sized t → isAccepted (headOf t step .answer) ≡ true → (p : ℕ)
+    (t : Tables) (step : Step) → Sound t → isAccepted (headOf t step .answer) ≡ true → (p : ℕ)
     → generationAt (headOf t step .tables) p ≡ moved (retires p step) (generationAt t p)
 unfolding headOf
 head-generation t step z e =
     let at : Places = placesOf t (lookOf step) in
     let m = decided-moves t step (foundOf t at) (seenOf t at) e in
-    stored-generation t at _ z (placed-places t (lookOf step)) (λ p. moved (retires p step)) (m .own) (λ p n. rw (m .other p n))
+    stored-generation t at _ (z .sized) (placed-places t (lookOf step)) (λ p. moved (retires p step)) (m .own) (λ p n. rw (m .other p n))
 
 -- each slot of a sweep or a crash leaves the generation
 turned-generation : (trip : Trip) (slot : ℕ) (seen : Seen) → turnSeen trip slot seen .passage .generation ≡ seen .passage .generation
@@ -127,19 +127,19 @@ turned-generation (Trip.Sweep site) slot seen =
 turned-generation (Trip.Crash site) slot seen = at-home-generation (losesHome site (seen .passage)) _ (seen .passage) _ refl refl
 
 turn-generation :
-    (trip : Trip) (slot : ℕ) (o : Outcome) → slot < 16 → Sized (o .tables) → (p : ℕ)
+    (trip : Trip) (slot : ℕ) (o : Outcome) → slot < 16 → Sound (o .tables) → (p : ℕ)
     → generationAt (turnOf trip slot o .tables) p ≡ generationAt (o .tables) p
 turn-generation trip slot o l z p =
     rw
     (turn-stored trip slot o)
-    (stored-generation (o .tables) (tripPlaces trip slot) _ z (placed-trip trip slot l) (λ p g. g) (turned-generation trip slot _) (λ p n. refl) p)
+    (stored-generation (o .tables) (tripPlaces trip slot) _ (z .sized) (placed-trip trip slot l) (λ p g. g) (turned-generation trip slot _) (λ p n. refl) p)
 
 -- an accepted step moves the generation of a slot by one if it is a retire of that slot, and by nothing else
 pub generation-after-step :
-    (t : Tables) (step : Step) → Sized t → isAccepted (stepOf t step .answer) ≡ true → (p : ℕ)
+    (t : Tables) (step : Step) → Sound t → isAccepted (stepOf t step .answer) ≡ true → (p : ℕ)
     → generationAt (stepOf t step .tables) p ≡ cond (retires p step) ((generationAt t p + 1) % 256) (generationAt t p)
 generation-after-step t step z e p =
-    sized-accepted-has
+    sound-accepted-has
     t
     step
     z
@@ -158,7 +158,7 @@ counted-entry t step p es b e = ap (λ (x : Bool). retiresIn p (cond x (entryOf 
 
 -- what one step adds to the count
 generation-counted :
-    (t : Tables) (step : Step) (p : ℕ) (es : List Entry) → Sized t → generationAt t p < 256
+    (t : Tables) (step : Step) (p : ℕ) (es : List Entry) → Sound t → generationAt t p < 256
     → (generationAt (stepOf t step .tables) p < 256)
     × ((generationAt (stepOf t step .tables) p + retiresIn p es) % 256 ≡ (generationAt t p + retiresIn p (entriesOf t step ++ es)) % 256)
 unfolding retiresIn
@@ -176,14 +176,14 @@ generation-counted t step p es z l =
     counted false = (l, omega arith)
 
 generation-from :
-    (t : Tables) (ss : List Step) (p : ℕ) → Sized t → generationAt t p < 256
+    (t : Tables) (ss : List Step) (p : ℕ) → Sound t → generationAt t p < 256
     → (generationAt (runOf t ss) p < 256)
     × (generationAt (runOf t ss) p ≡ (generationAt t p + retiresIn p (historyOf t ss)) % 256)
 unfolding runOf historyOf retiresIn
 generation-from t [] p z l = (l, omega arith)
 generation-from t (s ∷ ss) p z l =
     let c = generation-counted t s p (historyOf (stepOf t s .tables) ss) z l in
-    let k = generation-from (stepOf t s .tables) ss p (sized-step t s z) (c .0) in
+    let k = generation-from (stepOf t s .tables) ss p (sound-step t s z) (c .0) in
     (k .0, k .1 ∙ c .1)
 
 generation-start : (p : ℕ) → generationAt start p < 256
@@ -192,7 +192,7 @@ generation-start = repeat-has (λ (x : Passage). x .generation < 256) 16 (freeSl
 
 -- in every run a generation is one byte
 pub generation-below : {t₀ : Tables} → Started t₀ → (ss : List Step) (p : ℕ) → generationAt (runOf t₀ ss) p < 256
-generation-below {t₀} fresh ss p = generation-from t₀ ss p (sized-started fresh) (rw (fresh .empty) (generation-start p)) .0
+generation-below {t₀} fresh ss p = generation-from t₀ ss p (sound-started fresh) (rw (fresh .empty) (generation-start p)) .0
 
 -- the generation counts the accepted retires: what a run adds is their number, and 255 is followed by 0
 pub generation-counts-retires :
@@ -201,7 +201,7 @@ pub generation-counts-retires :
     ≡ (generationAt (runOf t₀ before) p + retiresIn p (historyOf (runOf t₀ before) after)) % 256
 generation-counts-retires {t₀} fresh before after p =
     ap (λ (t : Tables). generationAt t p) (run-on t₀ before after)
-    ∙ generation-from (runOf t₀ before) after p (sized-run fresh before) (generation-below fresh before p) .1
+    ∙ generation-from (runOf t₀ before) after p (sound-run fresh before) (generation-below fresh before p) .1
 
 -- ---- handles
 

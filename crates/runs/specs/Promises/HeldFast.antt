@@ -3,20 +3,19 @@
 use Prim.Native.Nat.{ℕ, _+_, _*_, _/_, _%_, _<_}
 use native.Mathlib.Omega.{arith}
 use mathlib.Core.Path.{_≡_, refl, sym, ap, _∙_, subst₂}
-use mathlib.Core.Logic.{_≢_, ⊎-elim, _⊎_, inl, inr}
-use mathlib.Core.Bool.{Bool, true, false, cond, true≢false}
+use mathlib.Core.Logic.{⊎-elim, _⊎_, inl, inr}
+use mathlib.Core.Bool.{true, false, true≢false}
 use mathlib.Core.List.{List, [], _∷_, _++_}
 use lib.ListN.{getD}
 use lib.Seq.{getD-set-same, getD-set-other}
-use borrow.Author.Tests.{ne-eqb}
-use Rattle.rules.specs.declared.tables.Holder.{Holder}
 use Rattle.rules.specs.declared.tables.Object.{Object}
 use Rattle.rules.specs.declared.looking.Trip.{Trip}
 use Rattle.rules.specs.declared.outcomes.Check.{Check}
 use Rattle.rules.specs.LoopsLaws.{either, cond-keeps}
-use Rattle.rules.specs.Tables.{pastObject, siteAt, objectAt, passageAt, visitAt, bankAt, objectSite, slotOf}
+use Rattle.rules.specs.Tables.{pastObject, siteAt, passageAt, visitAt, bankAt, objectSite, slotOf}
 use Rattle.rules.specs.Answers.{firstOf, settleOf}
-use Rattle.rules.specs.Parts.{nextClock, isHeldBy, taken, operated, unheld, freed, restored, eachOf, toldVisit, toldObjects}
+use Rattle.rules.specs.Parts.{nextClock, isHeldBy, taken, operated, freed, restored, eachOf, toldVisit, toldObjects}
+use Rattle.rules.specs.PartsLaws.{taken-held, LetsGoOf, freed-lets-go, restored-lets-go, let-go-other}
 use Rattle.rules.specs.Stations.{isSwept, sweptSlot, crashedSlot}
 use Rattle.rules.specs.Rounds.{roundTold, closed, closeOf}
 use Rattle.rules.specs.Calls.{mailSlot, calledObject, called, deliverCallOf, deliverPhaseOneOf, deliverPhaseTwoOf, deliverBodyOf}
@@ -24,40 +23,22 @@ use Rattle.rules.specs.Machine.{lookOf, placesOf, seenOf, bodyBank, decideOf, s
 use Rattle.rules.specs.StoredLaws.{Sized, Placed, visit-after-stored, turn-stored}
 use Rattle.rules.specs.RangesLaws.{placed-places, placed-trip}
 use Rattle.rules.specs.Runs.{Started, runOf}
+use Rattle.rules.specs.Events.{isHolding}
 use Rattle.rules.specs.StoredObjects.{seen-object-at, object-after-stored, object-after-stored-other, each-at}
 use Rattle.rules.specs.Views.{settled, Objects, Mail, mailOf, deedOf}
 use Rattle.runs.specs.Types.{Visit, Call, Told, Body, Tables, Step, Places, Seen, Outcome, Found}
 use Rattle.runs.specs.Walk.Put.{same-or-other}
 use Rattle.runs.specs.Walk.Steps.{run-on}
-use Rattle.runs.specs.Walk.Sizes.{sized-run, sized-step, sized-step-has}
+use Rattle.runs.specs.Walk.Sound.{Sound, sound-run, sound-step, sound-step-has}
 use Rattle.runs.specs.Promises.Promised.{Promised, isWord, stored-has, promised-stays}
-
--- ---- single objects
-
--- an object that p lets go stays with any other that holds it
-let-go-other :
-    (p q value : ℕ) (o : Object) → o .holder ≡ Holder.Slot q → q ≢ p
-    → cond (isHeldBy p (o .holder)) (unheld value) o .holder ≡ Holder.Slot q
-let-go-other p q value o e n = rw (ap (isHeldBy p) e ∙ ne-eqb q p n) e
-
--- a call takes no object that is held
-taken-held : (p q : ℕ) (c : Call) (o : Object) → o .holder ≡ Holder.Slot q → operated c (taken p o) .holder ≡ Holder.Slot q
-taken-held p q c o e = both (c .write)
-  where
-    same : taken p o .holder ≡ Holder.Slot q
-    same = rw e
-
-    both : (w : Bool) → cond w (record { value = c .value; holder = taken p o .holder; before = taken p o .before }) (taken p o) .holder ≡ Holder.Slot q
-    both true = same
-    both false = same
 
 -- ---- what a decision leaves of the objects that it saw
 
 -- who held one holds it, or is the step's own slot, whose visit at that site is gone
 record Fast (t : Tables) (at : Places) (left : Seen) : Type 0 where
   holds :
-      (i q : ℕ) → i < 4 → getD (bankAt t (at .bank)) i pastObject .holder ≡ Holder.Slot q
-      → (getD (left .objects) i pastObject .holder ≡ Holder.Slot q)
+      (i q : ℕ) → i < 4 → isHeldBy q (getD (bankAt t (at .bank)) i pastObject) ≡ true
+      → (isHeldBy q (getD (left .objects) i pastObject) ≡ true)
       ⊎ ((q ≡ at .slot) × ((at .bank ≡ at .site) × (left .visit .there ≡ false)))
 
 module _ (t : Tables) (at : Places) where
@@ -72,7 +53,7 @@ module _ (t : Tables) (at : Places) where
 
   -- the visit goes, and lets go of what it held at its site; who else holds an object there keeps it
   let-go-fast :
-      (f : Object → Object) (left : Seen) → ((o : Object) (q : ℕ) → o .holder ≡ Holder.Slot q → q ≢ at .slot → f o .holder ≡ Holder.Slot q)
+      (f : Object → Object) (left : Seen) → LetsGoOf (at .slot) f
       → left .objects ≡ eachOf f (bankAt t (at .bank))
       → at .bank ≡ at .site
       → left .visit .there ≡ false
@@ -85,9 +66,9 @@ module _ (t : Tables) (at : Places) where
             (λ y. inr (y, (b, gone)))
             (λ n.
             inl
-            (ap (λ (os : List Object). getD os i pastObject .holder) o
-            ∙ ap (λ (x : Object). x .holder) (each-at f (bankAt t (at .bank)) i l)
-            ∙ law (getD (bankAt t (at .bank)) i pastObject) q e n))
+            (ap (λ (os : List Object). isHeldBy q (getD os i pastObject)) o
+            ∙ ap (isHeldBy q) (each-at f (bankAt t (at .bank)) i l)
+            ∙ let-go-other (at .slot) q f law (getD (bankAt t (at .bank)) i pastObject) e n))
             (same-or-other q (at .slot));
       }
 
@@ -99,7 +80,7 @@ module _ (t : Tables) (at : Places) where
       → Fast t at left
   told-fast (Told.Refresh q) left v o b = same-fast left o
   told-fast (Told.Terminate m) left v o b = same-fast left o
-  told-fast Told.Prepare left v o b = let-go-fast (freed (at .slot)) left (λ x q. let-go-other (at .slot) q _ x) o b (ap (λ (x : Visit). x .there) v)
+  told-fast Told.Prepare left v o b = let-go-fast (freed (at .slot)) left (freed-lets-go (at .slot)) o b (ap (λ (x : Visit). x .there) v)
 
   -- a close does it where the home visit is there
   closed-fast : (told : Told) (clock : ℕ) → at .bank ≡ at .site → Fast t at (closed told (at .slot) clock (seenOf t at))
@@ -125,8 +106,8 @@ module _ (t : Tables) (at : Places) where
             inl
             (rw
             (y, getD-set-same (bankAt t (at .bank)) (c .object % 4) (operated c (taken (mailSlot (seenOf t at)) (calledObject c (seenOf t at)))) pastObject (omega arith))
-            (taken-held (mailSlot (seenOf t at)) q c (calledObject c (seenOf t at)) (rw y at e))))
-            (λ n. inl (ap (λ (o : Object). o .holder) (getD-set-other (bankAt t (at .bank)) (c .object % 4) i _ pastObject n) ∙ e))
+            (taken-held (mailSlot (seenOf t at)) (calledObject c (seenOf t at)) q c (rw y at e))))
+            (λ n. inl (ap (isHeldBy q) (getD-set-other (bankAt t (at .bank)) (c .object % 4) i _ pastObject n) ∙ e))
             (same-or-other i (c .object % 4));
       }
 
@@ -145,7 +126,7 @@ module _ (t : Tables) (at : Places) where
   turned-fast Trip.Nowhere b = same-fast (seenOf t at) refl
   turned-fast (Trip.Sweep site) b =
       ⊎-elim
-      (λ e. rw e (let-go-fast (restored (at .slot)) _ (λ x q. let-go-other (at .slot) q _ x) refl b refl))
+      (λ e. rw e (let-go-fast (restored (at .slot)) _ (restored-lets-go (at .slot)) refl b refl))
       (λ e. rw e (same-fast (seenOf t at) refl))
       (either (isSwept (seenOf t at)))
   turned-fast (Trip.Crash site) b = same-fast (crashedSlot site (at .slot) (seenOf t at)) refl
@@ -175,10 +156,10 @@ decided-fast t step found = seen-fast t step found (deedOf step .objects)
 module _ (k p : ℕ) (slot : p < 16) where
   -- p holds the object, or has no visit at its site
   abbrev pub HeldOrGone : Tables → Type 0
-  HeldOrGone t = (objectAt t k .holder ≡ Holder.Slot p) ⊎ (visitAt t (objectSite k) p .there ≡ false)
+  HeldOrGone t = (isHolding t p k ≡ true) ⊎ (visitAt t (objectSite k) p .there ≡ false)
 
   stored-fast :
-      (t : Tables) (at : Places) (left : Seen) → Sized t → Placed at → Fast t at left → objectAt t k .holder ≡ Holder.Slot p
+      (t : Tables) (at : Places) (left : Seen) → Sized t → Placed at → Fast t at left → isHolding t p k ≡ true
       → HeldOrGone (stored t at left)
   stored-fast t at left z h f e =
       ⊎-elim
@@ -186,39 +167,39 @@ module _ (k p : ℕ) (slot : p < 16) where
       let q : k / 4 ≡ at .bank = b in
       let y : 4 * at .bank + k % 4 ≡ k = omega arith in
       ⊎-elim
-      (λ x. inl (ap (λ (o : Object). o .holder) (object-after-stored t at left z h k b) ∙ x))
+      (λ x. inl (ap (isHeldBy p) (object-after-stored t at left z h k b) ∙ x))
       (λ x. inr (rw (b ∙ x .1 .0, x .0, visit-after-stored t at left z h) (x .1 .1)))
-      (f .holds (k % 4) p (omega arith) (ap (λ (o : Object). o .holder) (seen-object-at t (at .bank) (k % 4) (omega arith)) ∙ (rw y e))))
-      (λ n. inl (ap (λ (o : Object). o .holder) (object-after-stored-other t at left k n) ∙ e))
+      (f .holds (k % 4) p (omega arith) (ap (isHeldBy p) (seen-object-at t (at .bank) (k % 4) (omega arith)) ∙ (rw y e))))
+      (λ n. inl (ap (isHeldBy p) (object-after-stored-other t at left k n) ∙ e))
       (same-or-other (objectSite k) (at .bank))
 
   turn-fast :
-      (trip : Trip) (n : ℕ) (o : Outcome) → n < 16 → Sized (o .tables) → HeldOrGone (o .tables)
+      (trip : Trip) (n : ℕ) (o : Outcome) → n < 16 → Sound (o .tables) → HeldOrGone (o .tables)
       → HeldOrGone (turnOf trip n o .tables)
   turn-fast trip n o l z h =
       let at : Places = tripPlaces trip n in
       rw
       (turn-stored trip n o)
       (⊎-elim
-      (λ e. stored-fast (o .tables) at _ z (placed-trip trip n l) (turned-fast (o .tables) at trip refl) e)
+      (λ e. stored-fast (o .tables) at _ (z .sized) (placed-trip trip n l) (turned-fast (o .tables) at trip refl) e)
       (λ e.
       inr
-      (stored-has (λ v. v .there ≡ false) (o .tables) at _ z (placed-trip trip n l) (objectSite k) p slot
+      (stored-has (λ v. v .there ≡ false) (o .tables) at _ (z .sized) (placed-trip trip n l) (objectSite k) p slot
       (λ a b. turned-gone trip n (seenOf (o .tables) at) (subst₂ (λ (x y : ℕ). visitAt (o .tables) x y .there ≡ false) a b e))
       e))
       h)
 
-  head-fast : (t : Tables) (step : Step) → Sized t → objectAt t k .holder ≡ Holder.Slot p → HeldOrGone (headOf t step .tables)
+  head-fast : (t : Tables) (step : Step) → Sound t → isHolding t p k ≡ true → HeldOrGone (headOf t step .tables)
   unfolding headOf
-  head-fast t step z e = stored-fast t (placesOf t (lookOf step)) _ z (placed-places t (lookOf step)) (decided-fast t step _) e
+  head-fast t step z e = stored-fast t (placesOf t (lookOf step)) _ (z .sized) (placed-places t (lookOf step)) (decided-fast t step _) e
 
   -- in any tables: after every step the slot that held the object holds it, or has no visit at its site
   pub let-go-with-visit :
-      (t : Tables) (step : Step) → Sized t → objectAt t k .holder ≡ Holder.Slot p
-      → (objectAt (stepOf t step .tables) k .holder ≡ Holder.Slot p)
+      (t : Tables) (step : Step) → Sound t → isHolding t p k ≡ true
+      → (isHolding (stepOf t step .tables) p k ≡ true)
       ⊎ (visitAt (stepOf t step .tables) (objectSite k) p .there ≡ false)
   let-go-with-visit t step z e =
-      sized-step-has
+      sound-step-has
       t
       step
       z
@@ -235,14 +216,14 @@ module _ (k p : ℕ) (slot : p < 16) where
 -- is held by it after every step that is no word of home to that visit
 pub promised-object-held :
     {t₀ : Tables} → Started t₀ → (ss : List Step) (step : Step) (k p : ℕ) → p < 16 → Promised (runOf t₀ ss) (objectSite k) p
-    → objectAt (runOf t₀ ss) k .holder ≡ Holder.Slot p
+    → isHolding (runOf t₀ ss) p k ≡ true
     → isWord (runOf t₀ ss) (objectSite k) p step ≡ false
-    → objectAt (stepOf (runOf t₀ ss) step .tables) k .holder ≡ Holder.Slot p
+    → isHolding (stepOf (runOf t₀ ss) step .tables) p k ≡ true
 promised-object-held {t₀} fresh ss step k p slot promised held f =
     ⊎-elim
     (λ e. e)
-    (λ gone. absurd (true≢false (sym (promised-stays (objectSite k) p slot (runOf t₀ ss) step (sized-run fresh ss) promised f) ∙ gone)))
-    (let-go-with-visit k p slot (runOf t₀ ss) step (sized-run fresh ss) held)
+    (λ gone. absurd (true≢false (sym (promised-stays (objectSite k) p slot (runOf t₀ ss) step (sound-run fresh ss) promised f) ∙ gone)))
+    (let-go-with-visit k p slot (runOf t₀ ss) step (sound-run fresh ss) held)
 
 -- the visit of this slot is there after each of the steps
 unfoldable pub ThereThrough : Tables → ℕ → ℕ → List Step → Type 0
@@ -250,9 +231,9 @@ ThereThrough t site slot [] = Unit {0}
 ThereThrough t site slot (x ∷ xs) = (visitAt (stepOf t x .tables) site slot .there ≡ true) × ThereThrough (stepOf t x .tables) site slot xs
 
 held-through :
-    (t : Tables) (ss : List Step) (k p : ℕ) → p < 16 → Sized t → objectAt t k .holder ≡ Holder.Slot p
+    (t : Tables) (ss : List Step) (k p : ℕ) → p < 16 → Sound t → isHolding t p k ≡ true
     → ThereThrough t (objectSite k) p ss
-    → objectAt (runOf t ss) k .holder ≡ Holder.Slot p
+    → isHolding (runOf t ss) p k ≡ true
 unfolding runOf ThereThrough
 held-through t [] k p slot z held there = held
 held-through t (x ∷ xs) k p slot z held there =
@@ -262,14 +243,14 @@ held-through t (x ∷ xs) k p slot z held there =
     k
     p
     slot
-    (sized-step t x z)
+    (sound-step t x z)
     (⊎-elim (λ e. e) (λ gone. absurd (true≢false (sym (there .0) ∙ gone))) (let-go-with-visit k p slot t x z held))
     (there .1)
 
 -- an object that a passage holds is held by it as long as its visit at the object's site is there
 pub object-held-while-visit-there :
-    {t₀ : Tables} → Started t₀ → (before after : List Step) (k p : ℕ) → p < 16 → objectAt (runOf t₀ before) k .holder ≡ Holder.Slot p
+    {t₀ : Tables} → Started t₀ → (before after : List Step) (k p : ℕ) → p < 16 → isHolding (runOf t₀ before) p k ≡ true
     → ThereThrough (runOf t₀ before) (objectSite k) p after
-    → objectAt (runOf t₀ (before ++ after)) k .holder ≡ Holder.Slot p
+    → isHolding (runOf t₀ (before ++ after)) p k ≡ true
 object-held-while-visit-there {t₀} fresh before after k p slot held there =
-    rw (run-on t₀ before after) (held-through (runOf t₀ before) after k p slot (sized-run fresh before) held there)
+    rw (run-on t₀ before after) (held-through (runOf t₀ before) after k p slot (sound-run fresh before) held there)

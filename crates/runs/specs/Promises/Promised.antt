@@ -28,7 +28,7 @@ use Rattle.runs.specs.Types.{Kind, Visit, Told, Body, Message, Tables, S
 use Rattle.runs.specs.Walk.Says.{isPrepare, tellsPrepare, carriesCommit}
 use Rattle.runs.specs.Walk.Put.{same-or-other}
 use Rattle.runs.specs.Kept.Times.{asked-says}
-use Rattle.runs.specs.Walk.Sizes.{sized-run, sized-step-has}
+use Rattle.runs.specs.Walk.Sound.{Sound, sound-run, sound-step-has}
 
 -- ---- definitions
 
@@ -181,7 +181,7 @@ stored-has P t at left z h s p l own other = place (same-or-other s (at .site)) 
 
 module _ (s p : ℕ) (slot : p < 16) where
   head-firm :
-      (t : Tables) (step : Step) → Sized t → Promised t s p → isWord t s p step ≡ false
+      (t : Tables) (step : Step) → Sound t → Promised t s p → isWord t s p step ≡ false
       → Firm (lookOf step .trip) (visitAt (headOf t step .tables) s p)
   unfolding headOf
   head-firm t step z k f =
@@ -190,7 +190,7 @@ module _ (s p : ℕ) (slot : p < 16) where
       t
       (placesOf t (lookOf step))
       _
-      z
+      (z .sized)
       (placed-places t (lookOf step))
       s
       p
@@ -199,7 +199,7 @@ module _ (s p : ℕ) (slot : p < 16) where
       (firm (lookOf step .trip) (visitAt t s p) (k .there) (k .prepared))
 
   turn-firm :
-      (trip : Trip) (n : ℕ) (o : Outcome) → n < 16 → Sized (o .tables) → Firm trip (visitAt (o .tables) s p)
+      (trip : Trip) (n : ℕ) (o : Outcome) → n < 16 → Sound (o .tables) → Firm trip (visitAt (o .tables) s p)
       → Firm trip (visitAt (turnOf trip n o .tables) s p)
   turn-firm trip n o l z k =
       rw
@@ -209,7 +209,7 @@ module _ (s p : ℕ) (slot : p < 16) where
       (o .tables)
       (tripPlaces trip n)
       _
-      z
+      (z .sized)
       (placed-trip trip n l)
       s
       p
@@ -219,10 +219,10 @@ module _ (s p : ℕ) (slot : p < 16) where
 
   -- in any tables: a promised visit is there after every step that is no word of home to it
   pub promised-stays :
-      (t : Tables) (step : Step) → Sized t → Promised t s p → isWord t s p step ≡ false
+      (t : Tables) (step : Step) → Sound t → Promised t s p → isWord t s p step ≡ false
       → visitAt (stepOf t step .tables) s p .there ≡ true
   promised-stays t step z k f =
-      sized-step-has
+      sound-step-has
       t
       step
       z
@@ -235,7 +235,7 @@ module _ (s p : ℕ) (slot : p < 16) where
 
   -- so where it is gone, the step was home's word, and was accepted
   pub promised-until-word :
-      (t : Tables) (step : Step) → Sized t → Promised t s p → visitAt (stepOf t step .tables) s p .there ≡ false
+      (t : Tables) (step : Step) → Sound t → Promised t s p → visitAt (stepOf t step .tables) s p .there ≡ false
       → (isAccepted (stepOf t step .answer) ≡ true) × (isWord t s p step ≡ true)
   promised-until-word t step z k gone = (
     ⊎-elim
@@ -254,4 +254,4 @@ pub promise-kept-until-word :
     {t₀ : Tables} → Started t₀ → (ss : List Step) (step : Step) (s p : ℕ) → p < 16 → Promised (runOf t₀ ss) s p
     → visitAt (stepOf (runOf t₀ ss) step .tables) s p .there ≡ false
     → (isAccepted (stepOf (runOf t₀ ss) step .answer) ≡ true) × (isWord (runOf t₀ ss) s p step ≡ true)
-promise-kept-until-word {t₀} fresh ss step s p slot = promised-until-word s p slot (runOf t₀ ss) step (sized-run fresh ss)
+promise-kept-until-word {t₀} fresh ss step s p slot = promised-until-word s p slot (runOf t₀ ss) step (sound-run fresh ss)

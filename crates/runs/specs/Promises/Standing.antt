@@ -6,11 +6,10 @@ use mathlib.Core.Bool.{Bool, true, false, cond, _&&_, _||_, true≢false}
 use mathlib.Core.List.{List, [], _∷_, _++_}
 use lib.Dec.{eqb}
 use borrow.Author.Tests.{eq-eqb}
-use Rattle.rules.specs.declared.tables.Holder.{Holder}
 use Rattle.rules.specs.declared.looking.Trip.{Trip}
 use Rattle.rules.specs.declared.outcomes.Check.{Check}
 use Rattle.rules.specs.LoopsLaws.{either, or-left, or-right, not-false, cond-keeps}
-use Rattle.rules.specs.Tables.{objectAt, passageAt, visitAt, messageAt, objectSite, slotOf}
+use Rattle.rules.specs.Tables.{passageAt, visitAt, messageAt, objectSite, slotOf}
 use Rattle.rules.specs.Answers.{isAccepted, firstOf, settleOf}
 use Rattle.rules.specs.AnswersLaws.{Fine}
 use Rattle.rules.specs.Parts.{isFree, abortedPassage, whereThere, toldOf, toldVisit, askedVisit}
@@ -24,13 +23,14 @@ use Rattle.rules.specs.RangesLaws.{placed-places, placed-trip}
 use Rattle.rules.specs.RefusedLaws.{refused-leaves}
 use Rattle.rules.specs.Record.{flatOf, isStep}
 use Rattle.rules.specs.Runs.{Started, runOf}
+use Rattle.rules.specs.Events.{isHolding}
 use Rattle.rules.specs.Views.{settled, Marks, Mail, mailOf, Goes, deedOf}
 use Rattle.runs.specs.Types.{Kind, Passage, Visit, Asked, Told, Body, Message, Tables, Step, Places, Seen, Outcome, Found}
 use Rattle.runs.specs.Walk.Says.{isPrepare, isTerminate, tellsPrepare, carriesCommit, asksTerminate}
 use Rattle.runs.specs.Walk.Put.{same-or-other}
 use Rattle.runs.specs.Fits.Life.{free-says}
 use Rattle.runs.specs.Walk.Steps.{run-on}
-use Rattle.runs.specs.Walk.Sizes.{sized-run, sized-step-has}
+use Rattle.runs.specs.Walk.Sound.{Sound, sound-run, sound-step-has}
 use Rattle.runs.specs.Times.RunLaws.{free-no-visit}
 use Rattle.runs.specs.Promises.Promised.{Promised, isWord, stored-has, prepared-not-swept, word-here}
 use Rattle.runs.specs.Promises.HeldFast.{let-go-with-visit}
@@ -184,7 +184,7 @@ module _ (s p : ℕ) (slot : p < 16) where
   OnWay trip u = Stands (visitAt u s p) × Away trip (passageAt u p)
 
   head-stands :
-      (t : Tables) (step : Step) → Sized t → Promised t s p → isFree (passageAt t p .status) ≡ false → letsOff t s p step ≡ false
+      (t : Tables) (step : Step) → Sound t → Promised t s p → isFree (passageAt t p .status) ≡ false → letsOff t s p step ≡ false
       → Stands (visitAt (headOf t step .tables) s p)
   unfolding headOf
   head-stands t step z k u f =
@@ -193,7 +193,7 @@ module _ (s p : ℕ) (slot : p < 16) where
       t
       (placesOf t (lookOf step))
       _
-      z
+      (z .sized)
       (placed-places t (lookOf step))
       s
       p
@@ -209,7 +209,7 @@ module _ (s p : ℕ) (slot : p < 16) where
       (k .there, k .prepared)
 
   -- a crash's own store leaves the passages
-  crash-away : (t : Tables) (site : ℕ) → Sized t → (P : Passage → Type 0) → P (passageAt t p) → P (passageAt (headOf t (Step.Crash site) .tables) p)
+  crash-away : (t : Tables) (site : ℕ) → Sound t → (P : Passage → Type 0) → P (passageAt t p) → P (passageAt (headOf t (Step.Crash site) .tables) p)
   unfolding headOf decideOf crashOf
   crash-away t site z P k =
       let at : Places = placesOf t (lookOf (Step.Crash site)) in
@@ -218,14 +218,14 @@ module _ (s p : ℕ) (slot : p < 16) where
       t
       at
       _
-      z
+      (z .sized)
       (placed-places t (lookOf (Step.Crash site)))
       p
       (λ b. cond-keeps (λ (x : Seen). P (x .passage)) (isAccepted (firstOf (crashChecks site (seenOf t at)) 0)) _ (seenOf t at) (subst (λ (y : ℕ). P (passageAt t y)) b k) (subst (λ (y : ℕ). P (passageAt t y)) b k))
       k
 
   goes-away :
-      (t : Tables) (step : Step) → Goes step → Sized t → letsOff t s p step ≡ false → Away (lookOf step .trip) (passageAt (headOf t step .tables) p)
+      (t : Tables) (step : Step) → Goes step → Sound t → letsOff t s p step ≡ false → Away (lookOf step .trip) (passageAt (headOf t step .tables) p)
   goes-away t _ (Goes.Sweeps site) z f = λ e. tt
   goes-away t _ (Goes.Crashes site) z f =
       crash-away
@@ -237,28 +237,28 @@ module _ (s p : ℕ) (slot : p < 16) where
   goes-away t _ (Goes.Nowhere step none) z f = rw none (λ e. tt)
 
   head-away :
-      (t : Tables) (step : Step) → Sized t → letsOff t s p step ≡ false → Away (lookOf step .trip) (passageAt (headOf t step .tables) p)
+      (t : Tables) (step : Step) → Sound t → letsOff t s p step ≡ false → Away (lookOf step .trip) (passageAt (headOf t step .tables) p)
   head-away t step = goes-away t step (deedOf step .goes)
 
   turn-on-way :
-      (trip : Trip) (n : ℕ) (o : Outcome) → n < 16 → Sized (o .tables) → OnWay trip (o .tables) → OnWay trip (turnOf trip n o .tables)
+      (trip : Trip) (n : ℕ) (o : Outcome) → n < 16 → Sound (o .tables) → OnWay trip (o .tables) → OnWay trip (turnOf trip n o .tables)
   turn-on-way trip n o l z (k, w) =
       let at : Places = tripPlaces trip n in
       let here : s ≡ at .site → p ≡ at .slot → Stays trip (passageAt (o .tables) n) =
       λ a b. subst (λ (x : ℕ). Stays trip (passageAt (o .tables) x)) b (w a) in
       rw (turn-stored trip n o) (
-        stored-has Stands (o .tables) at _ z (placed-trip trip n l) s p slot
+        stored-has Stands (o .tables) at _ (z .sized) (placed-trip trip n l) s p slot
             (λ a b. turned-stands trip n (seenOf (o .tables) at) (here a b) (subst₂ (λ (x y : ℕ). Stands (visitAt (o .tables) x y)) a b k))
             k,
-        λ a. passage-has (Stays trip) (o .tables) at _ z (placed-trip trip n l) p (λ b. turned-stays trip n (seenOf (o .tables) at) (here a b)) (w a),
+        λ a. passage-has (Stays trip) (o .tables) at _ (z .sized) (placed-trip trip n l) p (λ b. turned-stays trip n (seenOf (o .tables) at) (here a b)) (w a),
       )
 
   -- in any tables: the promise to a passage in use stands after every step that does not let the station off
   pub promise-stands :
-      (t : Tables) (step : Step) → Sized t → Promised t s p → isFree (passageAt t p .status) ≡ false → letsOff t s p step ≡ false
+      (t : Tables) (step : Step) → Sound t → Promised t s p → isFree (passageAt t p .status) ≡ false → letsOff t s p step ≡ false
       → Promised (stepOf t step .tables) s p
   promise-stands t step z k u f =
-      sized-step-has
+      sound-step-has
       t
       step
       z
@@ -274,7 +274,7 @@ module _ (s p : ℕ) (slot : p < 16) where
 -- what stands of a promise from one moment to another: the visit with its mark, and every object that the passage holds at the site
 pub record StandsFrom (t u : Tables) (site slot : ℕ) : Type 0 where
   pub promised : Promised u site slot
-  pub objects : (k : ℕ) → objectSite k ≡ site → objectAt t k .holder ≡ Holder.Slot slot → objectAt u k .holder ≡ Holder.Slot slot
+  pub objects : (k : ℕ) → objectSite k ≡ site → isHolding t slot k ≡ true → isHolding u slot k ≡ true
 
 module _ {t₀ : Tables} (fresh : Started t₀) (s p : ℕ) (slot : p < 16) where
   -- in a run the slot of a visit is in use
@@ -296,13 +296,13 @@ module _ {t₀ : Tables} (fresh : Started t₀) (s p : ℕ) (slot : p < 16) wher
             ⊎-elim
             (λ e. e)
             (λ gone. absurd (true≢false (sym (next .there) ∙ subst (λ (a : ℕ). visitAt (stepOf (runOf t₀ ss) x .tables) a p .there ≡ false) y gone)))
-            (let-go-with-visit j p slot (runOf t₀ ss) x (sized-run fresh ss) held);
+            (let-go-with-visit j p slot (runOf t₀ ss) x (sound-run fresh ss) held);
       }
     where
       next : Promised (stepOf (runOf t₀ ss) x .tables) s p
       next =
           ⊎-elim
-          (λ e. promise-stands s p slot (runOf t₀ ss) x (sized-run fresh ss) k (in-use ss (k .there)) (rw e at f))
+          (λ e. promise-stands s p slot (runOf t₀ ss) x (sound-run fresh ss) k (in-use ss (k .there)) (rw e at f))
           (λ e. rw (refused-leaves (runOf t₀ ss) x e) k)
           (either (isAccepted (stepOf (runOf t₀ ss) x .answer)))
 

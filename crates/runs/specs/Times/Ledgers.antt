@@ -11,7 +11,7 @@ use Rattle.rules.specs.AnswersLaws.{accepted-fine}
 use Rattle.rules.specs.Ranges.{inRange}
 use Rattle.rules.specs.RangesLaws.{placed-places, placed-trip, seen-in-range, stored-in-range}
 use Rattle.rules.specs.RangesKept.{decided-in-range, turned-in-range, start-in-range}
-use Rattle.rules.specs.StoredLaws.{Sized, turn-stored, sized-after-stored}
+use Rattle.rules.specs.StoredLaws.{turn-stored}
 use Rattle.rules.specs.Checks.{badHandle, badTimes}
 use Rattle.rules.specs.Parts.{isActive, isAborted, isRunning}
 use Rattle.rules.specs.Stations.{tickOf, tickDone, sweepOf, sweepDone, crashOf, crashDone, recoverOf, recoverDone}
@@ -19,7 +19,7 @@ use Rattle.rules.specs.Passages.{beginOf, beginDone, abortOf, abortDone, retire
 use Rattle.rules.specs.Rounds.{refreshOf, terminateOf, prepareOf, openOf, openDone, askOf, askDone, closeOf, closeDone, tellOf, tellDone}
 use Rattle.rules.specs.Calls.{invokeOf, invokeDone, dropOf, dropDone}
 use Rattle.rules.specs.Machine.{lookOf, placesOf, seenOf, remains, decideOf, headOf, tripPlaces, turnSeen, turnOf, foundOf}
-use Rattle.rules.specs.Runs.{Started, runOf}
+use Rattle.rules.specs.Runs.{Started, start-started, runOf}
 use Rattle.runs.specs.Types.{Kind, Passage, Body, Tables, Step, Places, Seen, Outcome}
 use Rattle.rules.specs.declared.looking.Trip.{Trip}
 use Rattle.runs.specs.Walk.Plain.{repeat-has}
@@ -35,6 +35,7 @@ use Rattle.runs.specs.Fits.Close.{close-fits}
 use Rattle.runs.specs.Fits.Invoke.{invoke-fits}
 use Rattle.runs.specs.Fits.Deliver.{deliver-fits}
 use Rattle.runs.specs.Walk.Steps.{ghostRun, run-keeps}
+use Rattle.runs.specs.Walk.Sound.{Sound, sound-head, sound-turn, sound-started}
 
 -- ---- the ledgers after a run
 
@@ -69,7 +70,7 @@ ledgersOf t₀ ss = ghostRun headLedgers turnLedgers t₀ ss (λ p. noLedger)
 
 pub record Kept (t : Tables) (ls : ℕ → Ledger) : Type 0 where
   pub range : inRange t ≡ true
-  pub sized : Sized t
+  pub sound : Sound t
   pub slots : (p : ℕ) → p < 16 → Holds (viewOf t p) (ls p)
 
 -- ---- every accepted step's own store fits
@@ -141,13 +142,13 @@ head-kept t step ls k e =
           _
           _
           (seen-in-range t (placesAt t step) (k .range) (placed-places t (lookOf step))));
-      sized = sized-after-stored t (placesAt t step) _ (k .sized);
+      sound = sound-head t step (k .sound);
       slots =
           fitting-kept
           t
           (placesAt t step)
           _
-          (k .sized)
+          (k .sound .sized)
           (placed-places t (lookOf step))
           (decided-fits t (k .range) step e)
           ls
@@ -175,13 +176,13 @@ turn-kept trip slot o ls i k =
           _
           (k .range)
           (turned-in-range trip slot _ (seen-in-range (o .tables) (tripPlaces trip slot) (k .range) (placed-trip trip slot i)));
-      sized = sized-after-stored (o .tables) (tripPlaces trip slot) _ (k .sized);
+      sound = rw (turn-stored trip slot o) at (sound-turn trip slot o i (k .sound));
       slots =
           fitting-kept
           (o .tables)
           (tripPlaces trip slot)
           _
-          (k .sized)
+          (k .sound .sized)
           (placed-trip trip slot i)
           (turned-fits (o .tables) trip slot)
           ls
@@ -195,7 +196,7 @@ unfolding start
 start-kept =
     record {
       range = start-in-range;
-      sized = record { sites = refl; objects = refl; passages = refl; visits = refl; messages = refl };
+      sound = sound-started start-started;
       slots =
           λ p i.
           let e : passageAt start p ≡ freeSlot 0 = getD-replicate 16 p (freeSlot 0) pastPassage i in

@@ -22,7 +22,7 @@ use Rattle.rules.specs.Runs.{runOf, actsAtSite}
 use Rattle.rules.specs.Views.{settled-accepted, Clock, deedOf}
 use Rattle.runs.specs.Types.{Tables, Step, Places, Seen, Outcome, Found}
 use Rattle.runs.specs.Walk.Put.{same-or-other}
-use Rattle.runs.specs.Walk.Sizes.{sized-step, sized-accepted-has, sized-step-has}
+use Rattle.runs.specs.Walk.Sound.{Sound, sound-step, sound-accepted-has, sound-step-has}
 
 -- ---- what a decision leaves
 
@@ -94,14 +94,14 @@ stored-not-back t at left z h i s =
     (same-or-other s (at .site))
 
 pub head-not-back :
-    (t : Tables) (step : Step) → Sized t → (s : ℕ) → siteAt t s .clock ≤ siteAt (headOf t step .tables) s .clock
+    (t : Tables) (step : Step) → Sound t → (s : ℕ) → siteAt t s .clock ≤ siteAt (headOf t step .tables) s .clock
 unfolding headOf
 head-not-back t step z =
     stored-not-back
     t
     (placesOf t (lookOf step))
     _
-    z
+    (z .sized)
     (placed-places t (lookOf step))
     (decided-not-back step _ (seenOf t (placesOf t (lookOf step))))
 
@@ -113,7 +113,7 @@ turned-site (Trip.Sweep site) slot seen = ⊎-elim (λ e. rw e) (λ e. rw e) (ei
 turned-site (Trip.Crash site) slot seen = refl
 
 turn-not-back :
-    (trip : Trip) (slot : ℕ) (o : Outcome) → slot < 16 → Sized (o .tables) → (s : ℕ)
+    (trip : Trip) (slot : ℕ) (o : Outcome) → slot < 16 → Sound (o .tables) → (s : ℕ)
     → siteAt (o .tables) s .clock ≤ siteAt (turnOf trip slot o .tables) s .clock
 turn-not-back trip slot o l z s =
     rw
@@ -122,7 +122,7 @@ turn-not-back trip slot o l z s =
     (o .tables)
     (tripPlaces trip slot)
     _
-    z
+    (z .sized)
     (placed-trip trip slot l)
     (rw (turned-site trip slot (seenOf (o .tables) (tripPlaces trip slot))) (omega arith))
     s)
@@ -131,7 +131,7 @@ turn-not-back trip slot o l z s =
 
 -- a clock that has come to m is not put back below it
 turn-ahead :
-    (trip : Trip) (m s n : ℕ) (o : Outcome) → n < 16 → Sized (o .tables) → m ≤ siteAt (o .tables) s .clock
+    (trip : Trip) (m s n : ℕ) (o : Outcome) → n < 16 → Sound (o .tables) → m ≤ siteAt (o .tables) s .clock
     → m ≤ siteAt (turnOf trip n o .tables) s .clock
 turn-ahead trip m s n o l z k =
     let j : siteAt (o .tables) s .clock ≤ siteAt (turnOf trip n o .tables) s .clock = turn-not-back trip n o l z s in
@@ -139,9 +139,9 @@ turn-ahead trip m s n o l z k =
 
 -- whatever the step, accepted or not
 pub clock-not-back :
-    (t : Tables) (step : Step) → Sized t → (s : ℕ) → siteAt t s .clock ≤ siteAt (stepOf t step .tables) s .clock
+    (t : Tables) (step : Step) → Sound t → (s : ℕ) → siteAt t s .clock ≤ siteAt (stepOf t step .tables) s .clock
 clock-not-back t step z s =
-    sized-step-has
+    sound-step-has
     t
     step
     z
@@ -153,32 +153,32 @@ clock-not-back t step z s =
     (λ u k. k)
 
 pub clock-run :
-    (t : Tables) (ss : List Step) → Sized t → (s : ℕ) → siteAt t s .clock ≤ siteAt (runOf t ss) s .clock
+    (t : Tables) (ss : List Step) → Sound t → (s : ℕ) → siteAt t s .clock ≤ siteAt (runOf t ss) s .clock
 unfolding runOf
 clock-run t [] z s = omega arith
 clock-run t (x ∷ xs) z s =
     let i : siteAt t s .clock ≤ siteAt (stepOf t x .tables) s .clock = clock-not-back t x z s in
     let j : siteAt (stepOf t x .tables) s .clock ≤ siteAt (runOf (stepOf t x .tables) xs) s .clock =
-    clock-run (stepOf t x .tables) xs (sized-step t x z) s in
+    clock-run (stepOf t x .tables) xs (sound-step t x z) s in
     omega arith
 
 -- ---- an accepted step that acts at a site adds at least 1 there
 
 head-adds :
-    (t : Tables) (step : Step) → Sized t → isAccepted (headOf t step .answer) ≡ true → actsAtSite step ≡ true
+    (t : Tables) (step : Step) → Sound t → isAccepted (headOf t step .answer) ≡ true → actsAtSite step ≡ true
     → siteAt t (placesOf t (lookOf step) .site) .clock + 1 ≤ siteAt (headOf t step .tables) (placesOf t (lookOf step) .site) .clock
 unfolding headOf
 head-adds t step z e a =
     rw
-    (site-after-stored t (placesOf t (lookOf step)) _ z (placed-places t (lookOf step)))
+    (site-after-stored t (placesOf t (lookOf step)) _ (z .sized) (placed-places t (lookOf step)))
     (decided-adds step _ (seenOf t (placesOf t (lookOf step))) a e)
 
 pub clock-adds :
-    (t : Tables) (step : Step) → Sized t → isAccepted (stepOf t step .answer) ≡ true → actsAtSite step ≡ true
+    (t : Tables) (step : Step) → Sound t → isAccepted (stepOf t step .answer) ≡ true → actsAtSite step ≡ true
     → siteAt t (placesOf t (lookOf step) .site) .clock + 1 ≤ siteAt (stepOf t step .tables) (placesOf t (lookOf step) .site) .clock
 clock-adds t step z e a =
     let s : ℕ = placesOf t (lookOf step) .site in
-    sized-accepted-has
+    sound-accepted-has
     t
     step
     z

@@ -5,7 +5,9 @@ use native.Mathlib.Nat.{not-suc-le-zero, ne-of-lt}
 use mathlib.Core.Path.{_≡_, refl, sym}
 use mathlib.Core.Logic.{_≢_, ⊎-elim, _⊎_, inl, inr}
 use mathlib.Core.Bool.{cond}
+use mathlib.Core.List.{List, [], _∷_}
 use lib.Dec.{eqb}
+use lib.ListN.{getD, set}
 use borrow.Author.Tests.{eqb-true, eqb-false, eq-eqb, ne-eqb}
 use Rattle.rules.specs.Loops.{sumUpTo}
 use Rattle.rules.specs.LoopsLaws.{either, below-or-last, sum-same}
@@ -63,3 +65,11 @@ sum-put f a x (suc n) h =
     sum-same (put f a x) f n (λ i l. put-other f a x i (ne-of-lt (rw q l))) in
     rw (o, ← q, put-same f a x) (omega arith))
     (below-or-last a n h)
+
+-- one element of a list is replaced: what holds of it at its place, and of each other at its own, holds after it
+pub set-at : {A : Type 0} (P : ℕ → A → Type 0) (l : List A) (i j : ℕ) (a d : A) → P j (getD l j d) → P i a → P j (getD (set l i a) j d)
+set-at P [] i j a d h k = h
+set-at P (x ∷ xs) zero zero a d h k = k
+set-at P (x ∷ xs) zero (suc j) a d h k = h
+set-at P (x ∷ xs) (suc i) zero a d h k = h
+set-at P (x ∷ xs) (suc i) (suc j) a d h k = set-at (λ n. P (suc n)) xs i j a d h k

@@ -1,5 +1,7 @@
-use mathlib.Core.Path.{_≡_}
+use Prim.Native.Nat.{ℕ}
+use mathlib.Core.Path.{_≡_, ap}
 use borrow.Author.Needs.{needs}
+use Rattle.rules.specs.Parts.{isHeldByOther}
 use Rattle.rules.specs.Calls.{callChecks, deliverCallOf}
 use Rattle.checks.specs.Order.{triedAll}
 use Rattle.checks.specs.OrderLaws.{settled-first}
@@ -28,7 +30,7 @@ returns c =
       unheld .or-else4 .ensures,
       unheld .before .refuse3 .ensures,
       unheld .before .before .is-held-by-other .ensures,
-      unheld .before .before .before .mail-slot .ensures,
+      ap (λ (slot : ℕ). isHeldByOther slot (fields .before .before .called-object .result)) (unheld .before .before .before .mail-slot .ensures),
       early .or-else3 .ensures,
       early .before .refuse2 .ensures,
       clock .or-else2 .ensures,
