@@ -21,7 +21,7 @@ use Rattle.runs.specs.Walk.Steps.{head-accepted}
 use Rattle.runs.specs.Holders.HeldStore.{Held}
 use Rattle.runs.specs.Events.Uses.{holdAfter}
 use Rattle.runs.specs.Events.HoldSteps.{and-false, Did, took, let-go, idle, decided-did}
-use Rattle.runs.specs.Events.HoldStores.{LetsGoAt, leftBy, step-takes, step-lets-go, step-stays}
+use Rattle.runs.specs.Events.HoldStores.{LetsGoAt, leftBy, step-takes, step-lets-go, holding-after-idle}
 
 -- ---- a refused step has no event, and neither has one that acts at no site
 
@@ -228,7 +228,7 @@ module _ (t : Tables) (step : Step) (held : Held t) (p k : ℕ) (slot : p < 16) 
       (λ n. freed-away t step p k n _ ∙ sym (g .away p k n))
       (same-or-other (objectSite k) (placesOf t (lookOf step) .site)))
   accepted-told a (idle f) =
-      rw (idle-no-event t step (f .acts)) (sym (step-stays t step (held .sound) a f p k))
+      rw (idle-no-event t step (f .acts)) (sym (holding-after-idle t step (held .sound) a f p k))
 
   -- whatever the step, accepted or not
   pub events-tell : heldOver (eventsOf t step) p k (isHolding t p k) ≡ isHolding (stepOf t step .tables) p k

@@ -143,10 +143,10 @@ settled-lets-go :
 settled-lets-go cs v seen left h =
     cond-keeps (λ (x : Seen). AllLetGo (seen .objects) (x .objects)) (isAccepted (firstOf cs v)) left seen h (λ i l r e. e)
 
-settled-stays :
+objects-after-settled :
     (cs : List Check) (v : ℕ) (seen left : Seen) → left .objects ≡ seen .objects
     → settleOf (record { answer = firstOf cs v; left = left }) seen .left .objects ≡ seen .objects
-settled-stays cs v seen left e = cond-keeps (λ (x : Seen). x .objects ≡ seen .objects) (isAccepted (firstOf cs v)) left seen e refl
+objects-after-settled cs v seen left e = cond-keeps (λ (x : Seen). x .objects ≡ seen .objects) (isAccepted (firstOf cs v)) left seen e refl
 
 close-lets-go : (h : ℕ) (seen : Seen) → AllLetGo (seen .objects) (closeOf h seen .left .objects)
 unfolding closeOf
@@ -227,9 +227,9 @@ decided-did t (Step.Tell h site) found k a = quiet-did t (Step.Tell h site) _ _ 
 decided-did t (Step.Abort h) found k a = quiet-did t (Step.Abort h) _ _ _ refl tt refl refl refl
 decided-did t (Step.Deliver m) found k a = delivered-did t m k _ refl a
 decided-did t (Step.Drop m) found k a =
-    idle (record { acts = refl; trip = refl; stays = settled-stays _ _ (seenOf t (placesOf t (lookOf (Step.Drop m)))) _ refl })
+    idle (record { acts = refl; trip = refl; stays = objects-after-settled _ _ (seenOf t (placesOf t (lookOf (Step.Drop m)))) _ refl })
 decided-did t (Step.Sweep site) found k a = quiet-did t (Step.Sweep site) _ _ _ refl refl refl refl refl
 decided-did t (Step.Crash site) found k a = quiet-did t (Step.Crash site) _ _ _ refl refl refl refl refl
 decided-did t (Step.Recover site) found k a = quiet-did t (Step.Recover site) _ _ _ refl tt refl refl refl
 decided-did t (Step.Retire h) found k a =
-    idle (record { acts = refl; trip = refl; stays = settled-stays _ _ (seenOf t (placesOf t (lookOf (Step.Retire h)))) _ refl })
+    idle (record { acts = refl; trip = refl; stays = objects-after-settled _ _ (seenOf t (placesOf t (lookOf (Step.Retire h)))) _ refl })

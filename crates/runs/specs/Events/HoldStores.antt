@@ -77,8 +77,8 @@ module _ (t : Tables) (at : Places) (left : Seen) (z : Sized t) (h : Placed at) 
           (λ n. rw (ne-eqb (c .object) k n, ne-eqb (c .object % 4) (k % 4) (λ (q : c .object % 4 ≡ k % 4). n (omega arith))))
           (same-or-other (c .object) k)
 
-  stored-stays : left .objects ≡ bankAt t (at .bank) → (p k : ℕ) → isHolding (stored t at left) p k ≡ isHolding t p k
-  stored-stays e p k =
+  holding-after-stored : left .objects ≡ bankAt t (at .bank) → (p k : ℕ) → isHolding (stored t at left) p k ≡ isHolding t p k
+  holding-after-stored e p k =
       ⊎-elim
       (λ b. inside p k b ∙ (rw e (seen p k b)))
       (λ n. outside p k n)
@@ -171,9 +171,9 @@ module _ (t : Tables) (step : Step) (z : Sound t) (a : isAccepted (stepOf t step
       (sound-head t step z)
       .1))
 
-  pub step-stays : Idle t step (leftBy t step) → (p k : ℕ) → isHolding (stepOf t step .tables) p k ≡ isHolding t p k
+  pub holding-after-idle : Idle t step (leftBy t step) → (p k : ℕ) → isHolding (stepOf t step .tables) p k ≡ isHolding t p k
   unfolding headOf
-  step-stays f p k =
+  holding-after-idle f p k =
       rw
       (no-turns t step (f .trip) a)
-      (stored-stays t (placesOf t (lookOf step)) (leftBy t step) (z .sized) (placed-places t (lookOf step)) (f .stays) p k)
+      (holding-after-stored t (placesOf t (lookOf step)) (leftBy t step) (z .sized) (placed-places t (lookOf step)) (f .stays) p k)

@@ -17,10 +17,10 @@ use Rattle.runs.specs.Walk.Plain.{when-true, when-false}
 use Rattle.runs.specs.Times.View.{View, Ledger, viewOf, noted}
 use Rattle.runs.specs.Times.Clauses.{Holds}
 use Rattle.runs.specs.Kept.Visit.{withVisit, withLast}
-use Rattle.runs.specs.Kept.Times.{told-refresh-kept, told-terminate-kept}
-use Rattle.runs.specs.Kept.Closed.{closedView, closed-kept, closed-is-quiet, closed-largest}
+use Rattle.runs.specs.Kept.Times.{holds-after-told-refresh, holds-after-told-terminate}
+use Rattle.runs.specs.Kept.Closed.{closedView, holds-after-closed, closed-is-quiet, closed-largest}
 use Rattle.runs.specs.Times.Store.{leftView, Fitting, noted-there, noted-gone}
-use Rattle.runs.specs.Fits.Shared.{moved, moved-kept, news-kept, mail-back, stay-kept, went-kept, phase-fits}
+use Rattle.runs.specs.Fits.Shared.{moved, holds-after-moved, holds-after-news, mail-back, holds-after-stay, holds-after-went, phase-in-range}
 
 -- ---- phase 2 at the home visit of a passage that has closed
 
@@ -42,14 +42,14 @@ module _ (w : View) (l : Ledger) (a source : ℕ) (h : Holds w l)
       _
       was
       was
-      (told-refresh-kept
+      (holds-after-told-refresh
       (closedView w)
       l
       a
       q
-      (closed-kept w l h one closed)
+      (holds-after-closed w l h one closed)
       was
-      (closed-kept w l h one closed .passage .refresh-two q r refl e)
+      (holds-after-closed w l h one closed .passage .refresh-two q r refl e)
       (λ y. false≢true (sym (ap isBinding e) ∙ y .binding))
       (λ y. absurd (false≢true (sym (ap isBinding e) ∙ y))))
   told-home Kind.Terminate e n was =
@@ -57,30 +57,30 @@ module _ (w : View) (l : Ledger) (a source : ℕ) (h : Holds w l)
       _
       was
       was
-      (told-terminate-kept
+      (holds-after-told-terminate
       (closedView w)
       l
       a
       (largestQuiesce (w .passage .round))
-      (closed-kept w l h one closed)
+      (holds-after-closed w l h one closed)
       was
       (closed-is-quiet w l h one closed (ap isBinding e))
       (closed-largest w l h one closed (ap isBinding e)))
   told-home Kind.Prepare e n was =
       rw
       (noted-gone l a source noVisit refl)
-      (went-kept
+      (holds-after-went
       (closedView w)
       l
       a
       noVisit
-      (closed-kept w l h one closed)
+      (holds-after-closed w l h one closed)
       refl
       (λ y. inr (inr (closed-is-quiet w l h one closed (ap isBinding e)))))
 
   -- "Where a rule changes a visit that isn't there .., that part does nothing"
   stay-home : Left (w .visit a)
-  stay-home = stay-kept (closedView w) l a source (closed-kept w l h one closed)
+  stay-home = holds-after-stay (closedView w) l a source (holds-after-closed w l h one closed)
 
   pub told-or-stay :
       w .passage .round .kind ≢ Kind.None
@@ -129,19 +129,19 @@ close-left w l a k c source h i one closed kind =
     (w .mail k)
     _
     refl
-    (told-or-stay (moved w a c) l a source (moved-kept w l a c h i) one closed kind)
+    (told-or-stay (moved w a c) l a source (holds-after-moved w l a c h i) one closed kind)
 
-pub close-fits :
+pub fitting-after-close :
     (t : Tables) (h : ℕ) → inRange t ≡ true → Fine (closeChecks h (seenOf t (placesOf t (lookOf (Step.Close h)))))
     → Fitting t (placesOf t (lookOf (Step.Close h))) (closeDone h (seenOf t (placesOf t (lookOf (Step.Close h)))) .left)
 unfolding placesOf
-close-fits t h range fine =
+fitting-after-close t h range fine =
     record {
       clock = omega arith;
       mail = inl refl;
       own =
           λ l y.
-          news-kept
+          holds-after-news
           _
           _
           _
@@ -157,7 +157,7 @@ close-fits t h range fine =
           (omega arith)
           one
           (not-false _ (fine .closed))
-          (one-kind _ _ (phase-fits t (lookOf (Step.Close h)) range) one));
+          (one-kind _ _ (phase-in-range t (lookOf (Step.Close h)) range) one));
     }
   where
     one : passageAt t (h % 16) .round .phase ≡ Phase.One

@@ -20,7 +20,7 @@ use Rattle.runs.specs.Types.{Passage, Visit, Call, Asked, Told, Body, Me
 use Rattle.runs.specs.Walk.Plain.{when-false}
 use Rattle.runs.specs.Times.View.{View, Ledger, mailOf, viewOf}
 use Rattle.runs.specs.Times.Clauses.{sentFigures}
-use Rattle.runs.specs.Times.Store.{Fitting, settled-fits, own-mail, own-body, reply-own}
+use Rattle.runs.specs.Times.Store.{Fitting, fitting-after-settled, own-mail, own-body, reply-own}
 use Rattle.runs.specs.Fits.Shared.{not-free}
 use Rattle.runs.specs.Kept.Deliver.{LandedAt, call-lands, one-lands, one-away, two-lands, two-away, answer-lands}
 
@@ -250,13 +250,13 @@ module _ (t : Tables) (m : ℕ) (range : inRange t ≡ true) where
   deliver-in : deliverAt t m .message < 32
   deliver-in = placed-places t (lookOf (Step.Deliver m)) .message
 
-  pub deliver-call-fits :
+  pub fitting-after-deliver-call :
       (c : Call) → seenOf t (deliverAt t m) .message .body ≡ Body.Call c
       → Fine (callChecks m c (seenOf t (deliverAt t m)))
       → Fitting t (deliverAt t m) (callDone m c (seenOf t (deliverAt t m)) .left)
-  deliver-call-fits = call-fits-at t (deliverAt t m) m deliver-own deliver-here deliver-in
+  fitting-after-deliver-call = call-fits-at t (deliverAt t m) m deliver-own deliver-here deliver-in
 
-  pub deliver-phase-one-fits :
+  pub fitting-after-deliver-phase-one :
       (n : ℕ) (asked : Asked) → seenOf t (deliverAt t m) .message .body ≡ Body.PhaseOne n asked
       → Fine
       (roundChecks
@@ -266,9 +266,9 @@ module _ (t : Tables) (m : ℕ) (range : inRange t ≡ true) where
       (mailClock (seenOf t (deliverAt t m)))
       (seenOf t (deliverAt t m)))
       → Fitting t (deliverAt t m) (phaseOneDone m n asked (seenOf t (deliverAt t m)) .left)
-  deliver-phase-one-fits = phase-one-fits-at t (deliverAt t m) m deliver-own deliver-here deliver-in
+  fitting-after-deliver-phase-one = phase-one-fits-at t (deliverAt t m) m deliver-own deliver-here deliver-in
 
-  pub deliver-phase-two-fits :
+  pub fitting-after-deliver-phase-two :
       (n : ℕ) (told : Told) → seenOf t (deliverAt t m) .message .body ≡ Body.PhaseTwo n told
       → Fine
       (roundChecks
@@ -278,30 +278,30 @@ module _ (t : Tables) (m : ℕ) (range : inRange t ≡ true) where
       (mailClock (seenOf t (deliverAt t m)))
       (seenOf t (deliverAt t m)))
       → Fitting t (deliverAt t m) (phaseTwoDone m n told (seenOf t (deliverAt t m)) .left)
-  deliver-phase-two-fits = phase-two-fits-at t (deliverAt t m) m deliver-own deliver-here deliver-in
+  fitting-after-deliver-phase-two = phase-two-fits-at t (deliverAt t m) m deliver-own deliver-here deliver-in
 
-  pub deliver-answer-fits :
+  pub fitting-after-deliver-answer :
       (n received q : ℕ) → seenOf t (deliverAt t m) .message .body ≡ Body.Answer n received q
       → Fine (answerChecks m n (seenOf t (deliverAt t m)))
       → Fitting t (deliverAt t m) (answerDone m n received q (seenOf t (deliverAt t m)) .left)
-  deliver-answer-fits = answer-fits-at t (deliverAt t m) m deliver-own deliver-here deliver-in
+  fitting-after-deliver-answer = answer-fits-at t (deliverAt t m) m deliver-own deliver-here deliver-in
 
-  body-fits :
+  fitting-after-body :
       (b : Body) → seenOf t (deliverAt t m) .message .body ≡ b
       → isAccepted (deliverBodyOf b m (seenOf t (deliverAt t m)) .answer) ≡ true
       → Fitting t (deliverAt t m) (deliverBodyOf b m (seenOf t (deliverAt t m)) .left)
   unfolding deliverBodyOf emptyOf deliverCallOf deliverPhaseOneOf deliverPhaseTwoOf deliverAnswerOf
-  body-fits Body.Empty e y = absurd (true≢false (sym (ap isEmpty e) ∙ accepted-fine _ 0 y .found))
-  body-fits (Body.Call c) e y =
-      settled-fits t (deliverAt t m) (callDone m c (seenOf t (deliverAt t m))) y (deliver-call-fits c e (accepted-fine _ _ y))
-  body-fits (Body.PhaseOne n asked) e y =
-      settled-fits t (deliverAt t m) (phaseOneDone m n asked (seenOf t (deliverAt t m))) y (deliver-phase-one-fits n asked e (accepted-fine _ _ y))
-  body-fits (Body.PhaseTwo n told) e y =
-      settled-fits t (deliverAt t m) (phaseTwoDone m n told (seenOf t (deliverAt t m))) y (deliver-phase-two-fits n told e (accepted-fine _ _ y))
-  body-fits (Body.Answer n received q) e y =
-      settled-fits t (deliverAt t m) (answerDone m n received q (seenOf t (deliverAt t m))) y (deliver-answer-fits n received q e (accepted-fine _ _ y))
+  fitting-after-body Body.Empty e y = absurd (true≢false (sym (ap isEmpty e) ∙ accepted-fine _ 0 y .found))
+  fitting-after-body (Body.Call c) e y =
+      fitting-after-settled t (deliverAt t m) (callDone m c (seenOf t (deliverAt t m))) y (fitting-after-deliver-call c e (accepted-fine _ _ y))
+  fitting-after-body (Body.PhaseOne n asked) e y =
+      fitting-after-settled t (deliverAt t m) (phaseOneDone m n asked (seenOf t (deliverAt t m))) y (fitting-after-deliver-phase-one n asked e (accepted-fine _ _ y))
+  fitting-after-body (Body.PhaseTwo n told) e y =
+      fitting-after-settled t (deliverAt t m) (phaseTwoDone m n told (seenOf t (deliverAt t m))) y (fitting-after-deliver-phase-two n told e (accepted-fine _ _ y))
+  fitting-after-body (Body.Answer n received q) e y =
+      fitting-after-settled t (deliverAt t m) (answerDone m n received q (seenOf t (deliverAt t m))) y (fitting-after-deliver-answer n received q e (accepted-fine _ _ y))
 
-  pub deliver-fits :
+  pub fitting-after-deliver :
       isAccepted (deliverOf m (seenOf t (deliverAt t m)) .answer) ≡ true
       → Fitting t (deliverAt t m) (deliverOf m (seenOf t (deliverAt t m)) .left)
-  deliver-fits = body-fits (seenOf t (deliverAt t m) .message .body) refl
+  fitting-after-deliver = fitting-after-body (seenOf t (deliverAt t m) .message .body) refl

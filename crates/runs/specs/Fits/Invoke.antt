@@ -19,29 +19,29 @@ use Rattle.runs.specs.Types.{Call, Body, Message, Tables, Step, Places}
 use Rattle.runs.specs.Walk.Put.{put, put-same}
 use Rattle.runs.specs.Times.View.{View, Ledger, viewOf, noLedger, noted, relast}
 use Rattle.runs.specs.Times.Clauses.{Holds}
-use Rattle.runs.specs.Kept.Calls.{invoked-kept}
+use Rattle.runs.specs.Kept.Calls.{holds-after-invoked}
 use Rattle.runs.specs.Times.Store.{nextLedger, leftView, Fitting, own-mail, empty-mail, noted-there}
-use Rattle.runs.specs.Fits.Shared.{moved, moved-kept, news-kept}
+use Rattle.runs.specs.Fits.Shared.{moved, holds-after-moved, holds-after-news}
 
 -- ---- one slot's view: a visit before its Q sends a call
 
-invoke-kept :
+holds-after-invoke :
     (w : View) (l : Ledger) (a k d handle c source : ℕ) (call : Call) → Holds w l → w .clock a ≤ c
     → w .visit a .there ≡ true → c < w .visit a .quiesce → w .mail k .body ≡ Body.Empty → k < 32 → d < 8
     → call .quiesce ≡ w .visit a .quiesce → call .release ≡ w .visit a .release → call .round ≡ w .visit a .round
     → Holds
     (leftView w a k (w .passage) (countSent (w .visit a) d) c (plainMessage (Body.Call call) a d handle c))
     (cond (isFree (w .passage .status)) noLedger (noted l a source (countSent (w .visit a) d)))
-invoke-kept w l a k d handle c source call h i there early empty kin din quiesce release round =
-    news-kept
+holds-after-invoke w l a k d handle c source call h i there early empty kin din quiesce release round =
+    holds-after-news
     (leftView w a k (w .passage) (countSent (w .visit a) d) c (plainMessage (Body.Call call) a d handle c))
     (noted l a source (countSent (w .visit a) d))
     (put l a (relast (l a) (countSent (w .visit a) d)))
     (noted-there l a source (countSent (w .visit a) d) there (h .mirror a there .0))
-    (invoked-kept
+    (holds-after-invoked
     (moved w a c)
     l
-    (moved-kept w l a c h i)
+    (holds-after-moved w l a c h i)
     a
     k
     d
@@ -96,7 +96,7 @@ module _ (t : Tables) (at : Places) (h site write object value place : ℕ) (her
             m)
             (nextLedger l (at .site) (seenOf t at) (invokeDone h site write object value place (seenOf t at) .left)))
             (ap newMessage here ∙ sym (own-mail (at .slot) (newMessage site) refl own))
-            (invoke-kept
+            (holds-after-invoke
             (viewOf t (at .slot))
             l
             (at .site)
@@ -119,7 +119,7 @@ module _ (t : Tables) (at : Places) (h site write object value place : ℕ) (her
       }
 
 -- 3. invoke
-pub invoke-fits :
+pub fitting-after-invoke :
     (t : Tables) (h site write object value place : ℕ) → inRange t ≡ true
     → Fine (invokeChecks h site write object value (seenOf t (placesOf t (lookOf (Step.Invoke h site write object value)))))
     → Fitting
@@ -127,7 +127,7 @@ pub invoke-fits :
     (placesOf t (lookOf (Step.Invoke h site write object value)))
     (invokeDone h site write object value place (seenOf t (placesOf t (lookOf (Step.Invoke h site write object value)))) .left)
 unfolding placesOf
-invoke-fits t h site write object value place range fine =
+fitting-after-invoke t h site write object value place range fine =
     invoke-fits-at
     t
     (placesOf t (lookOf (Step.Invoke h site write object value)))

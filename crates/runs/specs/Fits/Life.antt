@@ -20,10 +20,10 @@ use Rattle.runs.specs.Types.{Status, Body, Tables, Step}
 use Rattle.runs.specs.Walk.Put.{put, put-all}
 use Rattle.runs.specs.Times.View.{View, Ledger, mailOf, viewOf, noLedger, noted, notedPast, firstSeen}
 use Rattle.runs.specs.Times.Clauses.{Holds}
-use Rattle.runs.specs.Kept.Life.{free-kept, begun-kept}
+use Rattle.runs.specs.Kept.Life.{holds-of-free, holds-after-begun}
 use Rattle.runs.specs.Times.Store.{leftView, Fitting}
-use Rattle.runs.specs.Fits.Shared.{moved, moved-kept, mail-back}
-use Rattle.runs.specs.Fits.Stations.{struck-kept}
+use Rattle.runs.specs.Fits.Shared.{moved, holds-after-moved, mail-back}
+use Rattle.runs.specs.Fits.Stations.{holds-after-struck}
 
 -- ---- what the checks say
 
@@ -69,12 +69,12 @@ begin-left w l a k c home q r source h i e place free times =
     (record { passage = begunPassage a (w .passage); visit = put (w .visit) a (newVisit q r 0); clock = put (w .clock) a c; mail = w .mail })
     m)
     (sym (ap (put l a) news))
-    (begun-kept (moved w a c) l a q r source (moved-kept w l a c h i) free place times)))
+    (holds-after-begun (moved w a c) l a q r source (holds-after-moved w l a c h i) free place times)))
   where
     news : notedPast l (l a) source (newVisit q r 0) ≡ firstSeen l source (newVisit q r 0)
     news = rw (h .free free .ledger a)
 
-pub begin-fits :
+pub fitting-after-begin :
     (t : Tables) (home slot q r : ℕ)
     → Fine (beginChecks home slot q r (seenOf t (placesOf t (lookOf (Step.Begin home slot q r)))))
     → Fitting
@@ -82,7 +82,7 @@ pub begin-fits :
     (placesOf t (lookOf (Step.Begin home slot q r)))
     (beginDone home slot q r (seenOf t (placesOf t (lookOf (Step.Begin home slot q r)))) .left)
 unfolding placesOf
-begin-fits t home slot q r fine =
+fitting-after-begin t home slot q r fine =
     let place : home < 8 = site-says home (or-left (badSite home) _ (or-left (badSite home || ltb 15 slot) _ (fine .fields))) in
     let times : q ≤ r = times-say q r (or-right (badSite home || ltb 15 slot) (badTimes q r) (fine .fields)) in
     record {
@@ -110,17 +110,17 @@ begin-fits t home slot q r fine =
 
 -- ---- abort
 
-pub abort-fits :
+pub fitting-after-abort :
     (t : Tables) (h : ℕ)
     → Fitting t (placesOf t (lookOf (Step.Abort h))) (abortDone h (seenOf t (placesOf t (lookOf (Step.Abort h)))) .left)
 unfolding placesOf
-abort-fits t h =
+fitting-after-abort t h =
     record {
       clock = omega arith;
       mail = inl refl;
       own =
           λ l y.
-          struck-kept
+          holds-after-struck
           (viewOf t (h % 16))
           l
           (passageAt t (h % 16) .home % 8)
@@ -144,7 +144,7 @@ retire-left :
     noLedger
 unfolding remains
 retire-left t p a k c generation l h none =
-    free-kept
+    holds-of-free
     (leftView (viewOf t p) a k (freeSlot generation) (visitAt t a p) c (mailOf p (messageAt t k)))
     (omega arith)
     refl
@@ -189,7 +189,7 @@ retire-left t p a k c generation l h none =
         rw n)
         (either (isEmpty (mailOf p (messageAt t i) .body)))
 
-pub retire-fits :
+pub fitting-after-retire :
     (t : Tables) (h : ℕ)
     → Fine (retireChecks h (remains t (placesOf t (lookOf (Step.Retire h)) .slot)) (seenOf t (placesOf t (lookOf (Step.Retire h)))))
     → Fitting
@@ -197,7 +197,7 @@ pub retire-fits :
     (placesOf t (lookOf (Step.Retire h)))
     (retireDone h (remains t (placesOf t (lookOf (Step.Retire h)) .slot)) (seenOf t (placesOf t (lookOf (Step.Retire h)))) .left)
 unfolding placesOf
-retire-fits t h fine =
+fitting-after-retire t h fine =
     record {
       clock = omega arith;
       mail = inl refl;

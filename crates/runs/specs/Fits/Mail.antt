@@ -17,25 +17,25 @@ use Rattle.rules.specs.Ranges.{inRange, phaseFits}
 use Rattle.runs.specs.Types.{Kind, Phase, Body, Tables, Step, Places}
 use Rattle.runs.specs.Times.View.{Ledger, viewOf}
 use Rattle.runs.specs.Times.Clauses.{Holds}
-use Rattle.runs.specs.Kept.Mail.{withMail, ask-kept, tell-kept}
+use Rattle.runs.specs.Kept.Mail.{withMail, holds-after-ask, holds-after-tell}
 use Rattle.runs.specs.Times.Store.{own-mail, Fitting, noted-same}
-use Rattle.runs.specs.Fits.Shared.{moved, moved-kept, news-kept, visit-back, not-free, phase-fits}
+use Rattle.runs.specs.Fits.Shared.{moved, holds-after-moved, holds-after-news, visit-back, not-free, phase-in-range}
 use Rattle.runs.specs.Fits.Life.{site-says}
 
 -- the slot was empty, and the message is of the passage
-pub sent-fits :
+pub fitting-after-sent :
     (t : Tables) (at : Places) (body : Body) (h site clock : ℕ) → siteAt t (at .site) .clock ≤ clock
     → isEmpty (messageAt t (at .message) .body) ≡ true → isEmpty body ≡ false → h % 16 ≡ at .slot
     → ((l : Ledger) → Holds (viewOf t (at .slot)) l → Holds (moved (viewOf t (at .slot)) (at .site) clock) l
     → Holds (withMail (moved (viewOf t (at .slot)) (at .site) clock) (at .message) (plainMessage body (passageAt t (at .slot) .home) site h clock)) l)
     → Fitting t at (sentOut body h site clock (seenOf t at))
-sent-fits t at body h site clock i empty full slot law =
+fitting-after-sent t at body h site clock i empty full slot law =
     record {
       clock = i;
       mail = inr (inl empty, inr slot);
       own =
           λ l y.
-          news-kept
+          holds-after-news
           _
           _
           _
@@ -52,18 +52,18 @@ sent-fits t at body h site clock i empty full slot law =
           refl
           (rw
           (own-mail (at .slot) (plainMessage body (passageAt t (at .slot) .home) site h clock) full slot)
-          (law l y (moved-kept (viewOf t (at .slot)) l (at .site) clock y i))));
+          (law l y (holds-after-moved (viewOf t (at .slot)) l (at .site) clock y i))));
     }
 
-pub ask-fits :
+pub fitting-after-ask :
     (t : Tables) (h site place : ℕ) → Fine (askChecks h site (seenOf t (placesOf t (lookOf (Step.Ask h site)))))
     → Fitting
     t
     (placesOf t (lookOf (Step.Ask h site)))
     (askDone h site place (seenOf t (placesOf t (lookOf (Step.Ask h site)))) .left)
 unfolding placesOf
-ask-fits t h site place fine =
-    sent-fits
+fitting-after-ask t h site place fine =
+    fitting-after-sent
     t
     (placesOf t (lookOf (Step.Ask h site)))
     _
@@ -75,7 +75,7 @@ ask-fits t h site place fine =
     refl
     refl
     (λ l y z.
-    ask-kept
+    holds-after-ask
     _
     l
     _
@@ -97,7 +97,7 @@ two-says Phase.None e = absurd (false≢true e)
 two-says Phase.One e = absurd (false≢true e)
 two-says Phase.Two e = refl
 
-pub tell-fits :
+pub fitting-after-tell :
     (t : Tables) (h site place : ℕ) → inRange t ≡ true
     → Fine (tellChecks h site (seenOf t (placesOf t (lookOf (Step.Tell h site)))))
     → Fitting
@@ -105,8 +105,8 @@ pub tell-fits :
     (placesOf t (lookOf (Step.Tell h site)))
     (tellDone h site place (seenOf t (placesOf t (lookOf (Step.Tell h site)))) .left)
 unfolding placesOf
-tell-fits t h site place range fine =
-    sent-fits
+fitting-after-tell t h site place range fine =
+    fitting-after-sent
     t
     (placesOf t (lookOf (Step.Tell h site)))
     _
@@ -118,7 +118,7 @@ tell-fits t h site place range fine =
     refl
     refl
     (λ l y z.
-    tell-kept
+    holds-after-tell
     _
     l
     _
@@ -132,7 +132,7 @@ tell-fits t h site place range fine =
     (eqb-false _ _ (or-right (not (isPhaseTwo (passageAt t (h % 16) .round .phase)) || not (hasAnswered (passageAt t (h % 16) .round) (site % 8))) _ (fine .state)))
     two
     (subst (λ (x : ℕ). hasAnswered (passageAt t (h % 16) .round) x ≡ true) s%8 answered)
-    (two-kind _ _ (phase-fits t (lookOf (Step.Tell h site)) range) two))
+    (two-kind _ _ (phase-in-range t (lookOf (Step.Tell h site)) range) two))
   where
     s<8 : site < 8
     s<8 = site-says site (or-right (badHandle h) _ (fine .fields))

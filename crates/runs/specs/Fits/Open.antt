@@ -17,10 +17,10 @@ use Rattle.runs.specs.Walk.Says.{isRefresh, isPrepare}
 use Rattle.runs.specs.Walk.Put.{put, put-same}
 use Rattle.runs.specs.Times.View.{View, Ledger, viewOf, noted}
 use Rattle.runs.specs.Times.Clauses.{Holds}
-use Rattle.runs.specs.Kept.Open.{opened-kept}
+use Rattle.runs.specs.Kept.Open.{holds-after-opened}
 use Rattle.runs.specs.Kept.Times.{asked-says}
 use Rattle.runs.specs.Times.Store.{leftView, Fitting, noted-there}
-use Rattle.runs.specs.Fits.Shared.{moved, moved-kept, news-kept, mail-back, not-free}
+use Rattle.runs.specs.Fits.Shared.{moved, holds-after-moved, holds-after-news, mail-back, not-free}
 use Rattle.runs.specs.Fits.Life.{times-say}
 
 -- ---- opening a round
@@ -82,11 +82,11 @@ open-home w l k c source kind h i there o =
     (w .visit (w .passage .home)))
     (asked-says (askedOf kind) _ _ (w .visit (w .passage .home)) .there ∙ there)
     (h .mirror (w .passage .home) there .0))
-    (opened-kept
+    (holds-after-opened
     (moved w (w .passage .home) c)
     l
     kind
-    (moved-kept w l (w .passage .home) c h i)
+    (holds-after-moved w l (w .passage .home) c h i)
     there
     (o .used)
     (o .times)
@@ -133,7 +133,7 @@ open-left w l a k source clock kind h i e there o =
     (subst (λ (x : ℕ). w .visit x .there ≡ true) e there)
     o)
 
-pub open-fits :
+pub fitting-after-open :
     (t : Tables) (h : ℕ) (kind : Kind) (bad wrong : Bool)
     → Fine (openChecks h bad wrong (seenOf t (placesOf t (looksHome MailAt.Nowhere h))))
     → Opening kind (passageAt t (h % 16) .status)
@@ -142,13 +142,13 @@ pub open-fits :
     (placesOf t (looksHome MailAt.Nowhere h))
     (openDone h kind bad wrong (seenOf t (placesOf t (looksHome MailAt.Nowhere h))) .left)
 unfolding placesOf
-open-fits t h kind bad wrong fine o =
+fitting-after-open t h kind bad wrong fine o =
     record {
       clock = omega arith;
       mail = inl refl;
       own =
           λ l y.
-          news-kept
+          holds-after-news
           _
           _
           _
@@ -233,7 +233,7 @@ prepare-opens s e =
     isPrepare Kind.Terminate = false
     isPrepare Kind.Prepare = true
 
-pub refresh-fits :
+pub fitting-after-refresh :
     (t : Tables) (h q r : ℕ)
     → Fine
     (openChecks
@@ -252,8 +252,8 @@ pub refresh-fits :
     (seenOf t (placesOf t (looksHome MailAt.Nowhere h)))
     .left)
 unfolding placesOf
-refresh-fits t h q r f =
-    open-fits
+fitting-after-refresh t h q r f =
+    fitting-after-open
     t
     h
     (Kind.Refresh q r)
@@ -262,7 +262,7 @@ refresh-fits t h q r f =
     f
     (refresh-opens (passageAt t (h % 16) .status) q r (times-say q r (or-right (badHandle h) _ (f .fields))) (not-false _ (f .state)))
 
-pub terminate-fits :
+pub fitting-after-terminate :
     (t : Tables) (h : ℕ)
     → Fine
     (openChecks
@@ -281,10 +281,10 @@ pub terminate-fits :
     (seenOf t (placesOf t (looksHome MailAt.Nowhere h)))
     .left)
 unfolding placesOf
-terminate-fits t h f =
-    open-fits t h Kind.Terminate _ _ f (terminate-opens (passageAt t (h % 16) .status) (not-false _ (f .state)))
+fitting-after-terminate t h f =
+    fitting-after-open t h Kind.Terminate _ _ f (terminate-opens (passageAt t (h % 16) .status) (not-false _ (f .state)))
 
-pub prepare-fits :
+pub fitting-after-prepare :
     (t : Tables) (h : ℕ)
     → Fine
     (openChecks
@@ -303,5 +303,5 @@ pub prepare-fits :
     (seenOf t (placesOf t (looksHome MailAt.Nowhere h)))
     .left)
 unfolding placesOf
-prepare-fits t h f =
-    open-fits t h Kind.Prepare _ _ f (prepare-opens (passageAt t (h % 16) .status) (not-false _ (f .state)))
+fitting-after-prepare t h f =
+    fitting-after-open t h Kind.Prepare _ _ f (prepare-opens (passageAt t (h % 16) .status) (not-false _ (f .state)))

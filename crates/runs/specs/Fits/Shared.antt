@@ -23,8 +23,8 @@ use Rattle.runs.specs.Times.Store.{leftView, noted-same}
 abbrev pub moved : View → ℕ → ℕ → View
 moved w a c = around w (w .visit) (put (w .clock) a c) (w .mail)
 
-pub moved-kept : (w : View) (l : Ledger) (a c : ℕ) → Holds w l → w .clock a ≤ c → Holds (moved w a c) l
-moved-kept w l a c h i =
+pub holds-after-moved : (w : View) (l : Ledger) (a c : ℕ) → Holds w l → w .clock a ≤ c → Holds (moved w a c) l
+holds-after-moved w l a c h i =
     shrunk
     w
     (w .visit)
@@ -38,9 +38,9 @@ moved-kept w l a c h i =
     h
 
 -- the ledger with its news serves; a free slot needs none
-pub news-kept :
+pub holds-after-news :
     (w : View) (news l : Ledger) → news ≡ l → Holds w l → Holds w (cond (isFree (w .passage .status)) noLedger news)
-news-kept w news l y h = go (w .passage .status) refl
+holds-after-news w news l y h = go (w .passage .status) refl
   where
     go : (s : Status) → w .passage .status ≡ s → Holds w (cond (isFree s) noLedger news)
     go Status.Free e = free-again w l h e
@@ -74,10 +74,10 @@ visit-back w a k c passage v m l e h =
     h
 
 -- a visit that stays is no news
-pub stay-kept :
+pub holds-after-stay :
     (w : View) (l : Ledger) (a source : ℕ) → Holds w l
     → Holds (withVisit w a (w .visit a)) (noted l a source (w .visit a))
-stay-kept w l a source h =
+holds-after-stay w l a source h =
     rw
     (noted-same w l a source h)
     (subst
@@ -86,11 +86,11 @@ stay-kept w l a source h =
     h)
 
 -- a visit that goes: its release time has come, or the passage is quiet
-pub went-kept :
+pub holds-after-went :
     (w : View) (l : Ledger) (a : ℕ) (v : Visit) → Holds w l → v .there ≡ false
     → (l a .seen ≡ true → (w .visit a .there ≡ false) ⊎ ((l a .last .release ≤ w .clock a) ⊎ Quiet w l))
     → Holds (around w (put (w .visit) a v) (w .clock) (w .mail)) l
-went-kept w l a v h e went =
+holds-after-went w l a v h e went =
     shrunk
     w
     (put (w .visit) a v)
@@ -121,8 +121,8 @@ pub not-free : (s : Status) → isFree s ≡ false → s ≢ Status.Free
 not-free s e y = true≢false (sym (ap isFree y) ∙ e)
 
 -- the round of the passage that a step looks at has a kind that fits its phase
-pub phase-fits :
+pub phase-in-range :
     (t : Tables) (look : Look) → inRange t ≡ true
     → phaseFits (passageAt t (placesOf t look .slot) .round .kind) (passageAt t (placesOf t look .slot) .round .phase) ≡ true
-phase-fits t look range =
+phase-in-range t look range =
     seen-says (seenOf t (placesOf t look)) (seen-in-range t (placesOf t look) range (placed-places t look)) .passage .round .phase

@@ -19,22 +19,22 @@ use Rattle.runs.specs.Times.View.{View, Ledger, mailOf, viewOf, noLedger
 use Rattle.runs.specs.Times.Clauses.{Holds}
 use Rattle.runs.specs.Kept.Shrunk.{around}
 use Rattle.runs.specs.Kept.Visit.{withVisit}
-use Rattle.runs.specs.Kept.Times.{quieted-kept}
-use Rattle.runs.specs.Kept.Round.{aborted-kept}
-use Rattle.runs.specs.Times.Store.{leftView, Fitting, idle-kept, noted-there, noted-gone}
-use Rattle.runs.specs.Fits.Shared.{moved, moved-kept, news-kept, mail-back, stay-kept, went-kept}
+use Rattle.runs.specs.Kept.Times.{holds-after-quieted}
+use Rattle.runs.specs.Kept.Round.{holds-after-aborted}
+use Rattle.runs.specs.Times.Store.{leftView, Fitting, holds-after-idle, noted-there, noted-gone}
+use Rattle.runs.specs.Fits.Shared.{moved, holds-after-moved, holds-after-news, mail-back, holds-after-stay, holds-after-went}
 
 -- only the site changes, and its clock does not go back
-pub site-fits :
+pub fitting-after-site :
     (t : Tables) (at : Places) (site : Site) → siteAt t (at .site) .clock ≤ site .clock
     → Fitting t at (leftSite (seenOf t at) site)
-site-fits t at site i =
+fitting-after-site t at site i =
     record {
       clock = i;
       mail = inl refl;
       own =
           λ l h.
-          idle-kept
+          holds-after-idle
           (viewOf t (at .slot))
           l
           (at .site)
@@ -48,19 +48,19 @@ site-fits t at site i =
     }
 
 -- what was seen is stored back
-pub same-fits : (t : Tables) (at : Places) → Fitting t at (seenOf t at)
-same-fits t at = site-fits t at (siteAt t (at .site)) (omega arith)
+pub fitting-after-same : (t : Tables) (at : Places) → Fitting t at (seenOf t at)
+fitting-after-same t at = fitting-after-site t at (siteAt t (at .site)) (omega arith)
 
 -- 12. drop: the message is lost
-pub lost-fits :
+pub fitting-after-lost :
     (t : Tables) (at : Places) → slotOf (messageAt t (at .message) .handle) ≡ at .slot → Fitting t at (lost (seenOf t at))
-lost-fits t at e =
+fitting-after-lost t at e =
     record {
       clock = omega arith;
       mail = inr (inr e, inl refl);
       own =
           λ l h.
-          idle-kept
+          holds-after-idle
           (viewOf t (at .slot))
           l
           (at .site)
@@ -80,18 +80,18 @@ pub abort-or-stay :
     → Holds
     (record { passage = cond b (abortedPassage (w .passage)) (w .passage); visit = w .visit; clock = w .clock; mail = w .mail })
     l
-abort-or-stay w l true h = aborted-kept w l h
+abort-or-stay w l true h = holds-after-aborted w l h
 abort-or-stay w l false h = h
 
 -- ---- one slot of a sweep: the visit goes at its time, and an active passage at home is aborted
 
-swept-kept :
+holds-after-swept :
     (w : View) (l : Ledger) (a k source : ℕ) (b : Bool) → Holds w l → w .visit a .there ≡ true
     → w .visit a .release ≤ w .clock a
     → Holds
     (leftView w a k (cond b (abortedPassage (w .passage)) (w .passage)) noVisit (w .clock a) (w .mail k))
     (cond (isFree (cond b (abortedPassage (w .passage)) (w .passage) .status)) noLedger (noted l a source noVisit))
-swept-kept w l a k source b h there late =
+holds-after-swept w l a k source b h there late =
     mail-back
     w
     a
@@ -102,7 +102,7 @@ swept-kept w l a k source b h there late =
     (w .mail k)
     _
     refl
-    (news-kept
+    (holds-after-news
     (record {
       passage = cond b (abortedPassage (w .passage)) (w .passage);
       visit = put (w .visit) a noVisit;
@@ -116,19 +116,19 @@ swept-kept w l a k source b h there late =
     (around w (put (w .visit) a noVisit) (put (w .clock) a (w .clock a)) (w .mail))
     l
     b
-    (went-kept
+    (holds-after-went
     (moved w a (w .clock a))
     l
     a
     noVisit
-    (moved-kept w l a (w .clock a) h (omega arith))
+    (holds-after-moved w l a (w .clock a) h (omega arith))
     refl
     (λ y. inr (inl (rw (h .mirror a there .1, put-same (w .clock) a (w .clock a)) late))))))
 
-pub swept-fits :
+pub fitting-after-swept :
     (t : Tables) (site slot : ℕ) → Fitting t (slotPlaces site slot) (sweptSlot site slot (seenOf t (slotPlaces site slot)))
 unfolding sweptSlot
-swept-fits t site slot =
+fitting-after-swept t site slot =
     ⊎-elim
     (λ e.
     rw
@@ -138,7 +138,7 @@ swept-fits t site slot =
       mail = inl refl;
       own =
           λ l h.
-          swept-kept
+          holds-after-swept
           (viewOf t slot)
           l
           (site % 8)
@@ -149,7 +149,7 @@ swept-fits t site slot =
           (and-left (visitAt t (site % 8) slot .there) _ (and-left (visitAt t (site % 8) slot .there && not (visitAt t (site % 8) slot .prepared)) _ e))
           (leb-true _ _ (and-right (visitAt t (site % 8) slot .there && not (visitAt t (site % 8) slot .prepared)) _ e));
     }))
-    (λ e. rw e (same-fits t (slotPlaces site slot)))
+    (λ e. rw e (fitting-after-same t (slotPlaces site slot)))
     (either (isSwept (seenOf t (slotPlaces site slot))))
 
 -- ---- a visit that is there is quieted, or stays
@@ -165,7 +165,7 @@ quieted-or-stay w l a source b prepared dead h = go b (either (w .visit a .there
     Left v = Holds (withVisit w a v) (noted l a source v)
 
     stay : Left (w .visit a)
-    stay = stay-kept w l a source h
+    stay = holds-after-stay w l a source h
 
     go :
         (c : Bool) → (w .visit a .there ≡ true) ⊎ (w .visit a .there ≡ false)
@@ -180,17 +180,17 @@ quieted-or-stay w l a source b prepared dead h = go b (either (w .visit a .there
         (subst
         (λ (m : Ledger). Holds (withVisit w a (quieted (w .visit a) (w .clock a) prepared dead)) m)
         (sym (noted-there l a source (quieted (w .visit a) (w .clock a) prepared dead) e (h .mirror a e .0)))
-        (quieted-kept w l a prepared dead h e))
+        (holds-after-quieted w l a prepared dead h e))
     go false (inl e) = when-true Left (w .visit a .there) (w .visit a) (w .visit a) e stay
     go c (inr e) = when-false Left (w .visit a .there) (cond c (quieted (w .visit a) (w .clock a) prepared dead) (w .visit a)) (w .visit a) e stay
 
 -- the same once the clock has moved, with a passage that is aborted or stays
-pub struck-kept :
+pub holds-after-struck :
     (w : View) (l : Ledger) (a k c source : ℕ) (b prepared dead aborts : Bool) → Holds w l → w .clock a ≤ c
     → Holds
     (leftView w a k (cond aborts (abortedPassage (w .passage)) (w .passage)) (whereThere (w .visit a) (cond b (quieted (w .visit a) c prepared dead) (w .visit a))) c (w .mail k))
     (noted l a source (whereThere (w .visit a) (cond b (quieted (w .visit a) c prepared dead) (w .visit a))))
-struck-kept w l a k c source b prepared dead aborts h i =
+holds-after-struck w l a k c source b prepared dead aborts h i =
     mail-back
     w
     a
@@ -216,25 +216,25 @@ struck-kept w l a k c source b prepared dead aborts h i =
     (withVisit (moved w a c) a (whereThere (w .visit a) (cond b (quieted (w .visit a) (put (w .clock) a c a) prepared dead) (w .visit a))))
     _
     aborts
-    (quieted-or-stay (moved w a c) l a source b prepared dead (moved-kept w l a c h i))))
+    (quieted-or-stay (moved w a c) l a source b prepared dead (holds-after-moved w l a c h i))))
 
 -- ---- one slot of a crash
 
-pub crashed-fits :
+pub fitting-after-crashed :
     (t : Tables) (site slot : ℕ) → Fitting t (slotPlaces site slot) (crashedSlot site slot (seenOf t (slotPlaces site slot)))
 unfolding crashedSlot
-crashed-fits t site slot =
+fitting-after-crashed t site slot =
     record {
       clock = omega arith;
       mail = inl refl;
       own =
           λ l h.
-          news-kept
+          holds-after-news
           _
           _
           _
           refl
-          (struck-kept
+          (holds-after-struck
           (viewOf t slot)
           l
           (site % 8)

@@ -37,7 +37,7 @@ isCall b = eqb (bodyKind b) 1
 pub no-call : (m : Message) → isCall (m .body) ≡ false → (c : Call) → m .body ≡ Body.Call c → GoesHome m c
 no-call m f c e = absurd (true≢false (sym (ap isCall e) ∙ f))
 
--- where a rule changes a visit that is there, it stays there
+-- where a rule changes a visit that is there, it held-after-same there
 changed-there : (v changed : Visit) → changed .there ≡ v .there → whereThere v changed .there ≡ v .there
 changed-there v changed e = ⊎-elim (λ b. rw b (e ∙ b)) (λ b. rw b) (either (v .there))
 
@@ -50,32 +50,32 @@ reply-no-call v clock seen = ⊎-elim (λ e. rw e) (λ e. rw e) (either (atHome 
 
 module _ (t : Tables) (at : Places) (k : Held t) where
   -- the message that was seen
-  call-stays : (c : Call) → messageAt t (at .message) .body ≡ Body.Call c → GoesHome (messageAt t (at .message)) c
-  call-stays c e = k .calls (at .message) c e
+  call-as-seen : (c : Call) → messageAt t (at .message) .body ≡ Body.Call c → GoesHome (messageAt t (at .message)) c
+  call-as-seen c e = k .calls (at .message) c e
 
   -- the objects stay, and a visit that was there is there
-  stays :
+  held-after-same :
       (left : Seen) → left .objects ≡ bankAt t (at .bank)
       → (left .visit .there ≡ false → visitAt t (at .site) (at .slot) .there ≡ false)
       → ((c : Call) → left .message .body ≡ Body.Call c → GoesHome (left .message) c)
       → Keeps t at left
-  stays left o v m =
+  held-after-same left o v m =
       record {
         objects = λ i p l e. inl (rw o at e);
         visit = λ e. inl (v e);
         calls = m;
       }
 
-  seen-stays : Keeps t at (seenOf t at)
-  seen-stays = stays (seenOf t at) refl (λ e. e) call-stays
+  held-after-seen : Keeps t at (seenOf t at)
+  held-after-seen = held-after-same (seenOf t at) refl (λ e. e) call-as-seen
 
-  settled-keeps :
+  held-after-settled :
       (cs : List Check) (v : ℕ) (left : Seen) → (Fine cs → Keeps t at left)
       → Keeps t at (settleOf (record { answer = firstOf cs v; left = left }) (seenOf t at) .left)
-  settled-keeps cs v left f =
+  held-after-settled cs v left f =
       ⊎-elim
       (λ e. rw e (f (accepted-fine cs v e)))
-      (λ e. rw e seen-stays)
+      (λ e. rw e held-after-seen)
       (either (isAccepted (firstOf cs v)))
 
   -- the visit has let go of what it held at its site
@@ -108,30 +108,30 @@ module _ (t : Tables) (at : Places) (k : Held t) where
           ∙ e)
 
   -- a phase 2 part
-  told-keeps :
+  held-after-told :
       (told : Told) (left : Seen) → left .visit ≡ toldVisit told (visitAt t (at .site) (at .slot))
       → left .objects ≡ toldObjects told (at .slot) (bankAt t (at .bank))
       → at .bank ≡ at .site
       → ((c : Call) → left .message .body ≡ Body.Call c → GoesHome (left .message) c)
       → Keeps t at left
-  told-keeps (Told.Refresh q) left v o b m = stays left o (λ e. sym (ap (λ (x : Visit). x .there) v) ∙ e) m
-  told-keeps (Told.Terminate x) left v o b m = stays left o (λ e. sym (ap (λ (x : Visit). x .there) v) ∙ e) m
-  told-keeps Told.Prepare left v o b m = lets-go (freed (at .slot)) left (freed-lets-go (at .slot)) o b m
+  held-after-told (Told.Refresh q) left v o b m = held-after-same left o (λ e. sym (ap (λ (x : Visit). x .there) v) ∙ e) m
+  held-after-told (Told.Terminate x) left v o b m = held-after-same left o (λ e. sym (ap (λ (x : Visit). x .there) v) ∙ e) m
+  held-after-told Told.Prepare left v o b m = lets-go (freed (at .slot)) left (freed-lets-go (at .slot)) o b m
 
   -- a close does it where the home visit is there
-  closed-keeps : (told : Told) (clock : ℕ) → at .bank ≡ at .site → Keeps t at (closed told (at .slot) clock (seenOf t at))
-  closed-keeps told clock b =
+  held-after-closed : (told : Told) (clock : ℕ) → at .bank ≡ at .site → Keeps t at (closed told (at .slot) clock (seenOf t at))
+  held-after-closed told clock b =
       ⊎-elim
-      (λ e. told-keeps told _ (rw e) (rw e) b call-stays)
-      (λ e. stays (closed told (at .slot) clock (seenOf t at)) (rw e) (λ y. e) call-stays)
+      (λ e. held-after-told told _ (rw e) (rw e) b call-as-seen)
+      (λ e. held-after-same (closed told (at .slot) clock (seenOf t at)) (rw e) (λ y. e) call-as-seen)
       (either (visitAt t (at .site) (at .slot) .there))
 
   -- a delivered call takes its object for the message's slot
-  called-keeps :
+  held-after-called :
       (c : Call) (clock : ℕ) → at .slot ≡ mailSlot (seenOf t at) → at .bank ≡ at .site
       → isHeldByOther (mailSlot (seenOf t at)) (calledObject c (seenOf t at)) ≡ false
       → Keeps t at (called c clock (seenOf t at))
-  called-keeps c clock s b free =
+  held-after-called c clock s b free =
       record {
         objects =
             λ i p l.
@@ -159,44 +159,44 @@ module _ (t : Tables) (at : Places) (k : Held t) where
       there = ⊎-elim (λ e. rw e e) (λ e. rw e) (either (visitAt t (at .site) (at .slot) .there))
 
   -- a station's step: only its site changes
-  pub station-keeps :
+  pub held-after-station :
       (cs : List Check) (v : ℕ) (site : Site)
       → Keeps t at (settleOf (record { answer = firstOf cs v; left = leftSite (seenOf t at) site }) (seenOf t at) .left)
-  station-keeps cs v site =
-      settled-keeps cs v _ (λ f. stays (leftSite (seenOf t at) site) refl (λ e. e) call-stays)
+  held-after-station cs v site =
+      held-after-settled cs v _ (λ f. held-after-same (leftSite (seenOf t at) site) refl (λ e. e) call-as-seen)
 
-  pub begin-keeps : (home slot q r : ℕ) → Keeps t at (beginOf home slot q r (seenOf t at) .left)
+  pub held-after-begin : (home slot q r : ℕ) → Keeps t at (beginOf home slot q r (seenOf t at) .left)
   unfolding beginOf
-  begin-keeps home slot q r =
-      settled-keeps _ _ _ (λ f. stays _ refl (λ e. absurd (true≢false e)) call-stays)
+  held-after-begin home slot q r =
+      held-after-settled _ _ _ (λ f. held-after-same _ refl (λ e. absurd (true≢false e)) call-as-seen)
 
-  pub retire-keeps : (h : ℕ) (rest : Bool) → Keeps t at (retireOf h rest (seenOf t at) .left)
+  pub held-after-retire : (h : ℕ) (rest : Bool) → Keeps t at (retireOf h rest (seenOf t at) .left)
   unfolding retireOf
-  retire-keeps h rest = settled-keeps _ _ _ (λ f. stays (retired (seenOf t at)) refl (λ e. e) call-stays)
+  held-after-retire h rest = held-after-settled _ _ _ (λ f. held-after-same (retired (seenOf t at)) refl (λ e. e) call-as-seen)
 
-  pub drop-keeps : (m : ℕ) → Keeps t at (dropOf m (seenOf t at) .left)
+  pub held-after-drop : (m : ℕ) → Keeps t at (dropOf m (seenOf t at) .left)
   unfolding dropOf
-  drop-keeps m = settled-keeps _ _ _ (λ f. stays (lost (seenOf t at)) refl (λ e. e) (no-call noMessage refl))
+  held-after-drop m = held-after-settled _ _ _ (λ f. held-after-same (lost (seenOf t at)) refl (λ e. e) (no-call noMessage refl))
 
   -- ask and tell send no call
-  pub sent-keeps :
+  pub held-after-sent :
       (cs : List Check) (v : ℕ) (body : Body) (h site clock : ℕ) → isCall body ≡ false
       → Keeps t at (settleOf (record { answer = firstOf cs v; left = sentOut body h site clock (seenOf t at) }) (seenOf t at) .left)
-  sent-keeps cs v body h site clock e =
-      settled-keeps cs v _ λ f.
-      stays
+  held-after-sent cs v body h site clock e =
+      held-after-settled cs v _ λ f.
+      held-after-same
       (sentOut body h site clock (seenOf t at))
       refl
       (λ y. y)
       (no-call (plainMessage body (passageAt t (at .slot) .home) site h clock) e)
 
   -- the object of an accepted invoke is one of the 32
-  pub invoke-keeps : (h site write object value place : ℕ) → Keeps t at (invokeOf h site write object value place (seenOf t at) .left)
+  pub held-after-invoke : (h site write object value place : ℕ) → Keeps t at (invokeOf h site write object value place (seenOf t at) .left)
   unfolding invokeOf
-  invoke-keeps h site write object value place =
-      settled-keeps _ _ _ λ f.
+  held-after-invoke h site write object value place =
+      held-after-settled _ _ _ λ f.
       let o : object ≤ 31 = ltb-false 31 object (object-says (f .fields)) in
-      stays _ refl (λ e. e) (λ c e. sent c (ap calledOf e) o)
+      held-after-same _ refl (λ e. e) (λ c e. sent c (ap calledOf e) o)
     where
       object-says : badCall h site write object value ≡ false → ltb 31 object ≡ false
       object-says e =
@@ -216,71 +216,71 @@ module _ (t : Tables) (at : Places) (k : Held t) where
           let y : object ≡ c .object = e in
           (omega arith, omega arith)
 
-  pub open-keeps : (h : ℕ) (kind : Kind) (bad wrong : Bool) → Keeps t at (openOf h kind bad wrong (seenOf t at) .left)
+  pub held-after-open : (h : ℕ) (kind : Kind) (bad wrong : Bool) → Keeps t at (openOf h kind bad wrong (seenOf t at) .left)
   unfolding openOf
-  open-keeps h kind bad wrong =
-      settled-keeps _ _ _ (λ f. stays _ refl (λ e. sym (asked-says (askedOf kind) _ _ _ .there) ∙ e) call-stays)
+  held-after-open h kind bad wrong =
+      held-after-settled _ _ _ (λ f. held-after-same _ refl (λ e. sym (asked-says (askedOf kind) _ _ _ .there) ∙ e) call-as-seen)
 
-  pub abort-keeps : (h : ℕ) → Keeps t at (abortOf h (seenOf t at) .left)
+  pub held-after-abort : (h : ℕ) → Keeps t at (abortOf h (seenOf t at) .left)
   unfolding abortOf
-  abort-keeps h =
-      settled-keeps _ _ _ (λ f. stays _ refl (λ e. sym (changed-there _ _ refl) ∙ e) call-stays)
+  held-after-abort h =
+      held-after-settled _ _ _ (λ f. held-after-same _ refl (λ e. sym (changed-there _ _ refl) ∙ e) call-as-seen)
 
-  pub close-keeps : (h : ℕ) → slotOf h ≡ at .slot → at .bank ≡ at .site → Keeps t at (closeOf h (seenOf t at) .left)
+  pub held-after-close : (h : ℕ) → slotOf h ≡ at .slot → at .bank ≡ at .site → Keeps t at (closeOf h (seenOf t at) .left)
   unfolding closeOf
-  close-keeps h s b = settled-keeps _ _ _ (λ f. rw s (closed-keeps (roundTold (passageAt t (at .slot) .round)) (nextClock (siteAt t (at .site))) b))
+  held-after-close h s b = held-after-settled _ _ _ (λ f. rw s (held-after-closed (roundTold (passageAt t (at .slot) .round)) (nextClock (siteAt t (at .site))) b))
 
   -- a phase 1 part, away from home with its answer
-  asked-keeps : (n : ℕ) (asked : Asked) (clock : ℕ) → Keeps t at (askedAt n asked clock (seenOf t at))
-  asked-keeps n asked clock =
+  held-after-asked : (n : ℕ) (asked : Asked) (clock : ℕ) → Keeps t at (askedAt n asked clock (seenOf t at))
+  held-after-asked n asked clock =
       let v : Visit = visitAt t (at .site) (at .slot) in
-      stays
+      held-after-same
       (askedAt n asked clock (seenOf t at))
       refl
       (λ e. sym (asked-says asked n clock v .there) ∙ e)
       (no-call (replyOf (askedVisit asked n clock v) clock (seenOf t at)) (reply-no-call (askedVisit asked n clock v) clock (seenOf t at)))
 
   -- by what the message slot holds
-  pub deliver-keeps :
+  pub held-after-deliver :
       (body : Body) (m : ℕ) → messageAt t (at .message) .body ≡ body
       → at .slot ≡ mailSlot (seenOf t at)
       → at .site ≡ messageAt t (at .message) .destination % 8
       → at .bank ≡ bodyBank body (at .site)
       → Keeps t at (deliverBodyOf body m (seenOf t at) .left)
   unfolding deliverBodyOf emptyOf deliverCallOf deliverPhaseOneOf deliverPhaseTwoOf deliverAnswerOf
-  deliver-keeps Body.Empty m e s a b = settled-keeps _ _ _ (λ f. seen-stays)
-  deliver-keeps (Body.Call c) m e s a b =
+  held-after-deliver Body.Empty m e s a b = held-after-settled _ _ _ (λ f. held-after-seen)
+  held-after-deliver (Body.Call c) m e s a b =
       let y : messageAt t (at .message) .destination ≡ objectSite (c .object) = k .calls (at .message) c e .0 in
-      settled-keeps _ _ _ (λ f. called-keeps c _ s (b ∙ ap (λ (x : ℕ). x % 8) (sym y) ∙ sym a) (f .unheld))
-  deliver-keeps (Body.PhaseOne n asked) m e s a b =
-      settled-keeps _ _ _ (λ f. asked-keeps n asked (mailClock (seenOf t at)))
-  deliver-keeps (Body.PhaseTwo n told) m e s a b =
-      settled-keeps _ _ _ (λ f. told-keeps told _ refl (rw s) b (no-call noMessage refl))
-  deliver-keeps (Body.Answer n r q) m e s a b =
-      settled-keeps _ _ _ (λ f. stays _ refl (λ y. y) (no-call noMessage refl))
+      held-after-settled _ _ _ (λ f. held-after-called c _ s (b ∙ ap (λ (x : ℕ). x % 8) (sym y) ∙ sym a) (f .unheld))
+  held-after-deliver (Body.PhaseOne n asked) m e s a b =
+      held-after-settled _ _ _ (λ f. held-after-asked n asked (mailClock (seenOf t at)))
+  held-after-deliver (Body.PhaseTwo n told) m e s a b =
+      held-after-settled _ _ _ (λ f. held-after-told told _ refl (rw s) b (no-call noMessage refl))
+  held-after-deliver (Body.Answer n r q) m e s a b =
+      held-after-settled _ _ _ (λ f. held-after-same _ refl (λ y. y) (no-call noMessage refl))
 
   -- one slot of a sweep: the visit that goes has let go
-  swept-keeps : (site : ℕ) → at .bank ≡ at .site → Keeps t at (sweptSlot site (at .slot) (seenOf t at))
+  held-after-swept : (site : ℕ) → at .bank ≡ at .site → Keeps t at (sweptSlot site (at .slot) (seenOf t at))
   unfolding sweptSlot
-  swept-keeps site b =
+  held-after-swept site b =
       ⊎-elim
-      (λ e. rw e (lets-go (restored (at .slot)) _ (restored-lets-go (at .slot)) refl b call-stays))
-      (λ e. rw e seen-stays)
+      (λ e. rw e (lets-go (restored (at .slot)) _ (restored-lets-go (at .slot)) refl b call-as-seen))
+      (λ e. rw e held-after-seen)
       (either (isSwept (seenOf t at)))
 
-  -- one slot of a crash: the visit stays
-  crashed-keeps : (site slot : ℕ) → Keeps t at (crashedSlot site slot (seenOf t at))
+  -- one slot of a crash: the visit held-after-same
+  held-after-crashed : (site slot : ℕ) → Keeps t at (crashedSlot site slot (seenOf t at))
   unfolding crashedSlot
-  crashed-keeps site slot =
+  held-after-crashed site slot =
       let v : Visit = visitAt t (at .site) (at .slot) in
       let w : Visit = crashedVisit (losesHome site (passageAt t (at .slot))) (siteAt t (at .site) .clock) v in
-      stays
+      held-after-same
       (crashedSlot site slot (seenOf t at))
       refl
       (λ e. sym (changed-there v w (crashed-there (losesHome site (passageAt t (at .slot))) (siteAt t (at .site) .clock) v)) ∙ e)
-      call-stays
+      call-as-seen
 
-  pub turned-keeps : (trip : Trip) → at .bank ≡ at .site → Keeps t at (turnSeen trip (at .slot) (seenOf t at))
-  turned-keeps Trip.Nowhere b = seen-stays
-  turned-keeps (Trip.Sweep site) b = swept-keeps site b
-  turned-keeps (Trip.Crash site) b = crashed-keeps site (at .slot)
+  pub held-after-turned : (trip : Trip) → at .bank ≡ at .site → Keeps t at (turnSeen trip (at .slot) (seenOf t at))
+  held-after-turned Trip.Nowhere b = held-after-seen
+  held-after-turned (Trip.Sweep site) b = held-after-swept site b
+  held-after-turned (Trip.Crash site) b = held-after-crashed site (at .slot)

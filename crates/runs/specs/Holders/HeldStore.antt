@@ -48,11 +48,11 @@ pub record Keeps (t : Tables) (at : Places) (left : Seen) : Type 0 where
 
 module _ (t : Tables) (at : Places) (left : Seen) (k : Held t) (h : Placed at) (x : Keeps t at left) where
   -- a visit that was there is there, unless it is the step's own and has let go
-  visit-stays :
+  visit-after-store :
       (s p : ℕ) → p < 16 → visitAt t s p .there ≡ true
       → ((at .bank ≡ s) → p ≡ at .slot → ((i : ℕ) → i < 4 → isHeldBy p (getD (left .objects) i pastObject) ≡ false) → ⊥)
       → visitAt (stored t at left) s p .there ≡ true
-  visit-stays s p l e never = place (same-or-other s (at .site)) (same-or-other p (at .slot))
+  visit-after-store s p l e never = place (same-or-other s (at .site)) (same-or-other p (at .slot))
     where
       own : s ≡ at .site → p ≡ at .slot → (left .visit .there ≡ true) ⊎ (left .visit .there ≡ false) → left .visit .there ≡ true
       own a b (inl y) = y
@@ -82,7 +82,7 @@ module _ (t : Tables) (at : Places) (left : Seen) (k : Held t) (h : Placed at) (
       let was : isHolding t p j ≡ true =
       subst (λ (i : ℕ). isHolding t p i ≡ true) y (rw (seen-object-at t (at .bank) (j % 4) (omega arith)) at old) in
       let v : (p < 16) × (visitAt t (objectSite j) p .there ≡ true) = k .visits j p l was in
-      (v .0, visit-stays (objectSite j) p (v .0) (v .1) (λ y z free. true≢false (sym e ∙ free (j % 4) (omega arith))))
+      (v .0, visit-after-store (objectSite j) p (v .0) (v .1) (λ y z free. true≢false (sym e ∙ free (j % 4) (omega arith))))
   held-inside j p b l e (inr (s, (there, own))) =
       let y : objectSite j ≡ at .site = b ∙ own in
       rw (s, y, visit-after-stored t at left (k .sound .sized) h) (h .slot, there)
@@ -93,7 +93,7 @@ module _ (t : Tables) (at : Places) (left : Seen) (k : Held t) (h : Placed at) (
       → (p < 16) × (visitAt (stored t at left) (objectSite j) p .there ≡ true)
   held-outside j p n l e =
       let v : (p < 16) × (visitAt t (objectSite j) p .there ≡ true) = k .visits j p l e in
-      (v .0, visit-stays (objectSite j) p (v .0) (v .1) (λ y z free. n (sym y)))
+      (v .0, visit-after-store (objectSite j) p (v .0) (v .1) (λ y z free. n (sym y)))
 
   held-visits :
       (j p : ℕ) → j < 32 → isHolding (stored t at left) p j ≡ true

@@ -20,40 +20,40 @@ use Rattle.runs.specs.Types.{Call, Body, Message, Tables, Step, Outcome,
 use Rattle.runs.specs.Walk.Plain.{repeat-has}
 use Rattle.runs.specs.Walk.Sound.{step-holds, run-holds, sound-head, sound-turn, sound-started}
 use Rattle.runs.specs.Holders.HeldStore.{GoesHome, Held, Keeps, held-stored}
-use Rattle.runs.specs.Holders.HeldSteps.{no-call, station-keeps, begin-keeps, retire-keeps, drop-keeps, sent-keeps, invoke-keeps, open-keeps, abort-keeps, close-keeps, deliver-keeps, turned-keeps}
+use Rattle.runs.specs.Holders.HeldSteps.{no-call, held-after-station, held-after-begin, held-after-retire, held-after-drop, held-after-sent, held-after-invoke, held-after-open, held-after-abort, held-after-close, held-after-deliver, held-after-turned}
 
 -- ---- every step and every turn
 
-decided-keeps :
+held-after-decided :
     (t : Tables) (step : Step) (found : Found) → Held t
     → Keeps t (placesOf t (lookOf step)) (decideOf step found (seenOf t (placesOf t (lookOf step))) .left)
 unfolding placesOf decideOf tickOf refreshOf terminateOf prepareOf askOf tellOf sweepOf crashOf recoverOf
-decided-keeps t (Step.Tick site n) found k = station-keeps t _ k _ _ _
-decided-keeps t (Step.Begin home slot q r) found k = begin-keeps t _ k home slot q r
-decided-keeps t (Step.Invoke h site write object value) found k = invoke-keeps t _ k h site write object value (found .place)
-decided-keeps t (Step.Refresh h q r) found k = open-keeps t _ k h _ _ _
-decided-keeps t (Step.Terminate h) found k = open-keeps t _ k h _ _ _
-decided-keeps t (Step.Prepare h) found k = open-keeps t _ k h _ _ _
-decided-keeps t (Step.Ask h site) found k = sent-keeps t _ k _ _ _ h site _ refl
-decided-keeps t (Step.Close h) found k = close-keeps t _ k h refl refl
-decided-keeps t (Step.Tell h site) found k = sent-keeps t _ k _ _ _ h site _ refl
-decided-keeps t (Step.Abort h) found k = abort-keeps t _ k h
-decided-keeps t (Step.Deliver m) found k = deliver-keeps t _ k _ m refl refl refl refl
-decided-keeps t (Step.Drop m) found k = drop-keeps t _ k m
-decided-keeps t (Step.Sweep site) found k = station-keeps t _ k _ _ _
-decided-keeps t (Step.Crash site) found k = station-keeps t _ k _ _ _
-decided-keeps t (Step.Recover site) found k = station-keeps t _ k _ _ _
-decided-keeps t (Step.Retire h) found k = retire-keeps t _ k h (found .remains)
+held-after-decided t (Step.Tick site n) found k = held-after-station t _ k _ _ _
+held-after-decided t (Step.Begin home slot q r) found k = held-after-begin t _ k home slot q r
+held-after-decided t (Step.Invoke h site write object value) found k = held-after-invoke t _ k h site write object value (found .place)
+held-after-decided t (Step.Refresh h q r) found k = held-after-open t _ k h _ _ _
+held-after-decided t (Step.Terminate h) found k = held-after-open t _ k h _ _ _
+held-after-decided t (Step.Prepare h) found k = held-after-open t _ k h _ _ _
+held-after-decided t (Step.Ask h site) found k = held-after-sent t _ k _ _ _ h site _ refl
+held-after-decided t (Step.Close h) found k = held-after-close t _ k h refl refl
+held-after-decided t (Step.Tell h site) found k = held-after-sent t _ k _ _ _ h site _ refl
+held-after-decided t (Step.Abort h) found k = held-after-abort t _ k h
+held-after-decided t (Step.Deliver m) found k = held-after-deliver t _ k _ m refl refl refl refl
+held-after-decided t (Step.Drop m) found k = held-after-drop t _ k m
+held-after-decided t (Step.Sweep site) found k = held-after-station t _ k _ _ _
+held-after-decided t (Step.Crash site) found k = held-after-station t _ k _ _ _
+held-after-decided t (Step.Recover site) found k = held-after-station t _ k _ _ _
+held-after-decided t (Step.Retire h) found k = held-after-retire t _ k h (found .remains)
 
 held-head : (t : Tables) (step : Step) → Held t → Held (headOf t step .tables)
 unfolding headOf
-held-head t step k = held-stored t _ _ k (placed-places t (lookOf step)) (decided-keeps t step _ k) (sound-head t step (k .sound))
+held-head t step k = held-stored t _ _ k (placed-places t (lookOf step)) (held-after-decided t step _ k) (sound-head t step (k .sound))
 
 held-turn : (trip : Trip) (slot : ℕ) (o : Outcome) → slot < 16 → Held (o .tables) → Held (turnOf trip slot o .tables)
 held-turn trip slot o l k =
     rw
     (turn-stored trip slot o)
-    (held-stored (o .tables) (tripPlaces trip slot) _ k (placed-trip trip slot l) (turned-keeps (o .tables) (tripPlaces trip slot) k trip refl) (rw (turn-stored trip slot o) at (sound-turn trip slot o l (k .sound))))
+    (held-stored (o .tables) (tripPlaces trip slot) _ k (placed-trip trip slot l) (held-after-turned (o .tables) (tripPlaces trip slot) k trip refl) (rw (turn-stored trip slot o) at (sound-turn trip slot o l (k .sound))))
 
 -- ---- the start, and every run
 

@@ -136,11 +136,11 @@ module _ (w : View) (l : Ledger) (h : Holds w l) (s k d handle stamp : ℕ) (c :
       put-all l s (relast (l s) counted) (λ i z. receivedBy z ≡ receivedBy (l i)) (rw (sender-seen, sender-last)) (λ i n. refl) e in
       rw (r, sender-seen, empty, ← sender-last, one-more (l s .last .sent) d e sender-counts) (omega arith)
 
-  pub invoked-kept :
+  pub holds-after-invoked :
       Holds
       (around w (put (w .visit) s (countSent (w .visit s) d)) (w .clock) (put (w .mail) k (plainMessage (Body.Call c) s d handle stamp)))
       (put l s (relast (l s) (countSent (w .visit s) d)))
-  invoked-kept =
+  holds-after-invoked =
       touched invoked-touch
       (λ u. absurd (true≢false (sym sender-seen ∙ u)))
       (call-clause invoked-call)
@@ -207,11 +207,11 @@ module _ (w : View) (l : Ledger) (h : Holds w l) (k a : ℕ) (c : Call)
         call-landed (relast (l a) received) (rw (callee-seen, callee-last)) d in
         omega arith
 
-    pub received-kept :
+    pub holds-after-received :
         Holds
         (around w (put (w .visit) a (countReceived (w .visit a))) (w .clock) (put (w .mail) k noMessage))
         (put l a (relast (l a) (countReceived (w .visit a))))
-    received-kept =
+    holds-after-received =
         touched received-touch
         (λ u. absurd (true≢false (sym callee-seen ∙ u)))
         empty-clause
@@ -304,7 +304,7 @@ module _ (w : View) (l : Ledger) (h : Holds w l) (k a : ℕ) (c : Call)
         call-landed madePast (rw never-twice) d in
         omega arith
 
-    pub made-kept :
+    pub holds-after-made :
         Holds
         (around
         w
@@ -315,5 +315,5 @@ module _ (w : View) (l : Ledger) (h : Holds w l) (k a : ℕ) (c : Call)
         l
         a
         (firstSeen l (w .mail k .source) (countReceived (newVisit (c .quiesce) (c .release) (c .round)))))
-    made-kept =
+    holds-after-made =
         touched made-touch (λ u. made-site) empty-clause (λ e. absurd (true≢false e)) (call-posted .0) call-place made-fair

@@ -14,7 +14,7 @@ use Rattle.runs.specs.Walk.Says.{isRefresh, isBinding}
 use Rattle.runs.specs.Times.View.{View, Ledger}
 use Rattle.runs.specs.Times.Clauses.{Below, QuietMail, Quiet, Holds}
 use Rattle.runs.specs.Times.ClausesLaws.{binding-no-refresh, call-says, late-says}
-use Rattle.runs.specs.Kept.Round.{restated-kept}
+use Rattle.runs.specs.Kept.Round.{holds-after-restated}
 use Rattle.runs.specs.Kept.Closing.{closing-refresh, closing-making, closing-binding, closing-no-call}
 
 -- ---- statuses
@@ -150,9 +150,9 @@ module _ (w : View) (l : Ledger) (h : Holds w l)
       }
 
   -- the invariant is kept by a close
-  pub closed-kept : Holds (closedView w) l
-  closed-kept =
-      restated-kept
+  pub holds-after-closed : Holds (closedView w) l
+  holds-after-closed =
+      holds-after-restated
       w
       l
       (toldStatus (roundTold (w .passage .round)) (w .passage .status))

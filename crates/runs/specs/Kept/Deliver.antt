@@ -16,12 +16,12 @@ use Rattle.runs.specs.Times.Clauses.{Quiet, sentFigures, InAnswer, Figur
 use Rattle.runs.specs.Times.ClausesLaws.{binding-no-refresh, late-says, terminate-says, prepare-says}
 use Rattle.runs.specs.Kept.Shrunk.{shrunk}
 use Rattle.runs.specs.Kept.Visit.{withVisit, withLast}
-use Rattle.runs.specs.Kept.Times.{asked-says, asked-kept, told-refresh-kept, told-terminate-kept}
-use Rattle.runs.specs.Kept.Mail.{withMail, reply-kept}
-use Rattle.runs.specs.Kept.Round.{answer-kept}
-use Rattle.runs.specs.Kept.Calls.{received-kept, never-twice, made-kept}
+use Rattle.runs.specs.Kept.Times.{asked-says, holds-after-asked, holds-after-told-refresh, holds-after-told-terminate}
+use Rattle.runs.specs.Kept.Mail.{withMail, holds-after-reply}
+use Rattle.runs.specs.Kept.Round.{holds-after-answer}
+use Rattle.runs.specs.Kept.Calls.{holds-after-received, never-twice, holds-after-made}
 use Rattle.runs.specs.Times.Store.{leftView, noted-there, noted-gone, noted-same}
-use Rattle.runs.specs.Fits.Shared.{moved, moved-kept, news-kept, visit-back, went-kept}
+use Rattle.runs.specs.Fits.Shared.{moved, holds-after-moved, holds-after-news, visit-back, holds-after-went}
 
 -- the message at slot k is lost
 pub mail-lost : (w : View) (l : Ledger) (k : ℕ) → Holds w l → Holds (withMail w k noMessage) l
@@ -65,7 +65,7 @@ module _ (w : View) (l : Ledger) (a k c : ℕ) (h : Holds w l) (i : w .clock a �
   later = moved w a c
 
   later-holds : Holds later l
-  later-holds = moved-kept w l a c h i
+  later-holds = holds-after-moved w l a c h i
 
   -- ---- a call
 
@@ -74,12 +74,12 @@ module _ (w : View) (l : Ledger) (a k c : ℕ) (h : Holds w l) (i : w .clock a �
         w .visit a .there ≡ true → c < w .visit a .quiesce
         → Landed (w .passage) (countReceived (w .visit a)) noMessage (w .mail k .source)
     call-received there early =
-        news-kept
+        holds-after-news
         (leftView w a k (w .passage) (countReceived (w .visit a)) c noMessage)
         (noted l a (w .mail k .source) (countReceived (w .visit a)))
         _
         (noted-there l a (w .mail k .source) (countReceived (w .visit a)) there (h .mirror a there .0))
-        (received-kept later l later-holds k a call body at there (rw (put-same (w .clock) a c) early))
+        (holds-after-received later l later-holds k a call body at there (rw (put-same (w .clock) a c) early))
 
     abbrev madeVisit : Visit
     madeVisit = newVisit (call .quiesce) (call .release) (call .round)
@@ -89,12 +89,12 @@ module _ (w : View) (l : Ledger) (a k c : ℕ) (h : Holds w l) (i : w .clock a �
         → Landed (w .passage) (countReceived madeVisit) noMessage (w .mail k .source)
     call-makes missing early =
         let late : put (w .clock) a c a < call .quiesce = rw (put-same (w .clock) a c) early in
-        news-kept
+        holds-after-news
         (leftView w a k (w .passage) (countReceived madeVisit) c noMessage)
         (noted l a (w .mail k .source) (countReceived madeVisit))
         _
         (noted-made l a (w .mail k .source) (countReceived madeVisit) refl (never-twice later l later-holds k a call body at missing late))
-        (made-kept later l later-holds k a call body at missing late)
+        (holds-after-made later l later-holds k a call body at missing late)
 
     pub call-lands :
         c < calledVisit call (w .visit a) .quiesce
@@ -132,20 +132,20 @@ module _ (w : View) (l : Ledger) (a k c : ℕ) (h : Holds w l) (i : w .clock a �
     asks-there : asks .there ≡ true
     asks-there = asked-says asked n c (w .visit a) .there ∙ there
 
-    asks-kept : Holds (withVisit later a asks) (withLast l a asks)
-    asks-kept =
+    holds-after-asks : Holds (withVisit later a asks) (withLast l a asks)
+    holds-after-asks =
         subst
         (λ (d : ℕ).
         Holds
         (withVisit later a (askedVisit asked n d (w .visit a)))
         (withLast l a (askedVisit asked n d (w .visit a))))
         (put-same (w .clock) a c)
-        (asked-kept later l a asked n later-holds there below (one-says .number) (one-says .kind))
+        (holds-after-asked later l a asked n later-holds there below (one-says .number) (one-says .kind))
 
     pub one-lands :
         (handle source : ℕ) → Landed (w .passage) asks (answerMessage asks a (w .passage .home) handle c) source
     one-lands handle source =
-        news-kept
+        holds-after-news
         (leftView w a k (w .passage) asks c (answerMessage asks a (w .passage .home) handle c))
         (noted l a source asks)
         (withLast l a asks)
@@ -156,14 +156,14 @@ module _ (w : View) (l : Ledger) (a k c : ℕ) (h : Holds w l) (i : w .clock a �
         (leftView w a k (w .passage) asks c (answerMessage v a (w .passage .home) handle c))
         (withLast l a asks))
         (put-same (w .visit) a asks)
-        (reply-kept
+        (holds-after-reply
         (withVisit later a asks)
         (withLast l a asks)
         k
         a
         handle
         c
-        asks-kept
+        holds-after-asks
         (rw (put-same (w .visit) a asks) asks-there)
         kin))
 
@@ -184,7 +184,7 @@ module _ (w : View) (l : Ledger) (a k c : ℕ) (h : Holds w l) (i : w .clock a �
         (v : Visit) (source : ℕ) → v .there ≡ true → Holds (withVisit later a v) (withLast l a v)
         → Landed (w .passage) v noMessage source
     two-left v source e g =
-        news-kept
+        holds-after-news
         (leftView w a k (w .passage) v c noMessage)
         (noted l a source v)
         (withLast l a v)
@@ -199,7 +199,7 @@ module _ (w : View) (l : Ledger) (a k c : ℕ) (h : Holds w l) (i : w .clock a �
         (toldVisit (Told.Refresh q) (w .visit a))
         source
         there
-        (told-refresh-kept
+        (holds-after-told-refresh
         later
         l
         a
@@ -227,12 +227,12 @@ module _ (w : View) (l : Ledger) (a k c : ℕ) (h : Holds w l) (i : w .clock a �
         (toldVisit (Told.Terminate m) (w .visit a))
         source
         there
-        (told-terminate-kept later l a m later-holds there (says .0) (says .1))
+        (holds-after-told-terminate later l a m later-holds there (says .0) (says .1))
 
     two-prepare :
         (source : ℕ) → w .mail k .body ≡ Body.PhaseTwo n Told.Prepare → Landed (w .passage) noVisit noMessage source
     two-prepare source body =
-        news-kept
+        holds-after-news
         (leftView w a k (w .passage) noVisit c noMessage)
         (noted l a source noVisit)
         l
@@ -241,7 +241,7 @@ module _ (w : View) (l : Ledger) (a k c : ℕ) (h : Holds w l) (i : w .clock a �
         (withVisit later a noVisit)
         l
         k
-        (went-kept later l a noVisit later-holds refl (λ y. inr (inr (prepare-says later l later-holds k n body)))))
+        (holds-after-went later l a noVisit later-holds refl (λ y. inr (inr (prepare-says later l later-holds k n body)))))
 
     pub two-lands :
         (told : Told) (source : ℕ) → w .mail k .body ≡ Body.PhaseTwo n told
@@ -276,7 +276,7 @@ module _ (w : View) (l : Ledger) (a k c : ℕ) (h : Holds w l) (i : w .clock a �
 
     pub answer-lands : Landed kept (w .visit a) noMessage source
     answer-lands =
-        news-kept
+        holds-after-news
         (leftView w a k kept (w .visit a) c noMessage)
         (noted l a source (w .visit a))
         l
@@ -295,7 +295,7 @@ module _ (w : View) (l : Ledger) (a k c : ℕ) (h : Holds w l) (i : w .clock a �
         (record { passage = kept; visit = w .visit; clock = put (w .clock) a c; mail = w .mail })
         l
         k
-        (answer-kept
+        (holds-after-answer
         later
         l
         source

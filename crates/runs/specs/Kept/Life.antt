@@ -46,11 +46,11 @@ fresh-passage w l i e =
 
 -- ---- a free slot: nothing of it anywhere, and an empty ledger
 
-pub free-kept :
+pub holds-of-free :
     (w : View) → w .passage .home < 8 → w .passage .round ≡ noRound
     → ((s : ℕ) → w .visit s .there ≡ false) → ((k : ℕ) → w .mail k .body ≡ Body.Empty)
     → Holds w noLedger
-free-kept w home e visits mail =
+holds-of-free w home e visits mail =
     record {
       free = λ y. record { round = e; visits = visits; mail = mail; ledger = λ s. refl };
       mirror = λ s y. absurd (true≢false (sym y ∙ visits s));
@@ -64,7 +64,7 @@ free-kept w home e visits mail =
 -- a slot that is free needs no ledger
 pub free-again : (w : View) (l : Ledger) → Holds w l → w .passage .status ≡ Status.Free → Holds w noLedger
 free-again w l h e =
-    free-kept w (h .passage .home) (h .free e .round) (h .free e .visits) (h .free e .mail)
+    holds-of-free w (h .passage .home) (h .free e .round) (h .free e .visits) (h .free e .mail)
 
 -- ---- begin: the slot was free, so home alone has seen the passage
 
@@ -119,8 +119,8 @@ module _ (w : View) (l : Ledger) (home q r source : ℕ) (h : Holds w l)
         largest = λ e. absurd (false≢true (ap isPhaseTwo e));
       }
 
-  pub begun-kept : Holds begunView begunLedger
-  begun-kept =
+  pub holds-after-begun : Holds begunView begunLedger
+  holds-after-begun =
       record {
         free = λ e. absurd (false≢true (ap isFree e));
         mirror =

@@ -103,8 +103,8 @@ module _ (w : View) (l : Ledger) (k : ℕ) (m : Message) (h : Holds w l) (x : Le
             λ e i f y. ⊎-elim (λ z. g .figures e i f z) (λ z. x .figures v d j f g z) (mail-figure v f y);
       }
 
-  pub mail-kept : BodyFine (withMail w k m) l m (m .body) → Holds (withMail w k m) l
-  mail-kept fine =
+  pub holds-after-mail : BodyFine (withMail w k m) l m (m .body) → Holds (withMail w k m) l
+  holds-after-mail fine =
       record {
         free = λ e. absurd (x .taken e);
         mirror = h .mirror;
@@ -177,12 +177,12 @@ module _ (w : View) (l : Ledger) (k : ℕ) (m : Message) (h : Holds w l) (x : Le
 
 -- ---- ask: a phase 1 message from home, not to home
 
-pub ask-kept :
+pub holds-after-ask :
     (w : View) (l : Ledger) (k site h stamp : ℕ) → Holds w l → (w .passage .status ≡ Status.Free → ⊥)
     → k < 32 → site < 8 → site ≢ w .passage .home
     → Holds (withMail w k (plainMessage (askBody (w .passage .round)) (w .passage .home) site h stamp)) l
-ask-kept w l k site h stamp g taken i j away =
-    mail-kept
+holds-after-ask w l k site h stamp g taken i j away =
+    holds-after-mail
     w
     l
     k
@@ -245,18 +245,18 @@ module _ (w : View) (l : Ledger) (k site h stamp : ℕ) (g : Holds w l)
   tell-fine Kind.Prepare e n =
       mail-quiet w l k _ g tell-letter (g .passage .closed-quiet two (sym (ap isBinding e)))
 
-  pub tell-kept :
+  pub holds-after-tell :
       w .passage .round .kind ≢ Kind.None
       → Holds (withMail w k (plainMessage (tellBody (w .passage .round)) (w .passage .home) site h stamp)) l
-  tell-kept n = mail-kept w l k _ g tell-letter (two-clause away (tell-fine (w .passage .round .kind) refl n))
+  holds-after-tell n = holds-after-mail w l k _ g tell-letter (two-clause away (tell-fine (w .passage .round .kind) refl n))
 
 -- ---- the answer of a visit, in place of the phase 1 message
 
-pub reply-kept :
+pub holds-after-reply :
     (w : View) (l : Ledger) (k a h stamp : ℕ) → Holds w l → w .visit a .there ≡ true → k < 32
     → Holds (withMail w k (answerMessage (w .visit a) a (w .passage .home) h stamp)) l
-reply-kept w l k a h stamp g was slot =
-    mail-kept
+holds-after-reply w l k a h stamp g was slot =
+    holds-after-mail
     w
     l
     k

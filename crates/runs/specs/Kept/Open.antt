@@ -12,9 +12,9 @@ use Rattle.runs.specs.Walk.Put.{put, put-same}
 use Rattle.runs.specs.Times.View.{View, Ledger, relast}
 use Rattle.runs.specs.Times.Clauses.{Below, Quiet, Figure, FigureFine, EdgeFine, SiteFine, ToldFine, BodyFine, Holds}
 use Rattle.runs.specs.Kept.Masks.{nobody-answers, answered-here}
-use Rattle.runs.specs.Kept.Round.{alikeHere, restated-kept, answer-kept}
+use Rattle.runs.specs.Kept.Round.{alikeHere, holds-after-restated, holds-after-answer}
 use Rattle.runs.specs.Kept.Visit.{withVisit, withLast}
-use Rattle.runs.specs.Kept.Times.{asked-kept, asked-says, AskedSays, number-here}
+use Rattle.runs.specs.Kept.Times.{holds-after-asked, asked-says, AskedSays, number-here}
 
 -- the passage with its round's next number, before anybody has done its part: no phase, no answers
 abbrev pub renumbered : View → Status → Kind → View
@@ -59,13 +59,13 @@ module _ (w : View) (l : Ledger) (status : Status) (kind : Kind) (h : Holds w l)
   not-new : (n : ℕ) → n ≤ w .passage .round .number → n ≡ w .passage .round .number + 1 → ⊥
   not-new n i e = omega arith
 
-  new-kept : (v : ℕ) → v < 8 → hasAnswered (renumbered w status kind .passage .round) v ≡ true → ⊥
-  new-kept v i e =
+  none-answered-yet : (v : ℕ) → v < 8 → hasAnswered (renumbered w status kind .passage .round) v ≡ true → ⊥
+  none-answered-yet v i e =
       true≢false (sym e ∙ nobody-answers (renumbered w status kind .passage .round) v refl i)
 
   -- no answer in flight has the new number
   new-figure : (v : ℕ) (f : Figures) → Figure (renumbered w status kind) v f → ⊥
-  new-figure v f (inl (i, e, g)) = new-kept v i e
+  new-figure v f (inl (i, e, g)) = none-answered-yet v i e
   new-figure v f (inr (k, y)) =
       not-new (w .passage .round .number + 1) (h .mail k .answer (w .passage .round .number + 1) (y .received) (y .quiesce) (y .body) .0) refl
 
@@ -142,8 +142,8 @@ module _ (w : View) (l : Ledger) (status : Status) (kind : Kind) (h : Holds w l)
             (omega arith, λ j. absurd (not-new n i j));
       }
 
-  pub renumbered-kept : Holds (renumbered w status kind) l
-  renumbered-kept =
+  pub holds-after-renumbered : Holds (renumbered w status kind) l
+  holds-after-renumbered =
       record {
         free = λ e. absurd (used e);
         mirror = h .mirror;
@@ -155,7 +155,7 @@ module _ (w : View) (l : Ledger) (status : Status) (kind : Kind) (h : Holds w l)
               home = h .passage .home;
               mask = omega arith;
               figures = refl;
-              kept = λ v i e. absurd (new-kept v i e);
+              kept = λ v i e. absurd (none-answered-yet v i e);
               home-answers = λ e. absurd (false≢true (ap isPhaseOne e));
               refresh-one = times;
               refresh-two = λ q r e k. absurd (false≢true (ap isPhaseTwo e));
@@ -201,13 +201,13 @@ module _ (w : View) (l : Ledger) (kind : Kind) (h : Holds w l)
       (withVisit (renumbered w (askedStatus (askedOf kind) (w .passage .status)) kind) (w .passage .home) (homeAsked w kind))
       (withLast l (w .passage .home) (homeAsked w kind))
   home-part =
-      asked-kept
+      holds-after-asked
       (renumbered w (askedStatus (askedOf kind) (w .passage .status)) kind)
       l
       (w .passage .home)
       (askedOf kind)
       (w .passage .round .number + 1)
-      (renumbered-kept w l (askedStatus (askedOf kind) (w .passage .status)) kind h used times fits)
+      (holds-after-renumbered w l (askedStatus (askedOf kind) (w .passage .status)) kind h used times fits)
       was
       (let i : w .visit (w .passage .home) .round ≤ w .passage .round .number =
       number-here w l (w .passage .home) (w .visit (w .passage .home)) h was in
@@ -229,7 +229,7 @@ module _ (w : View) (l : Ledger) (kind : Kind) (h : Holds w l)
         bound = λ b. (rw home-past refl, rw home-past refl, rw home-past (omega arith));
       }
 
-  home-kept :
+  holds-after-home :
       Holds
       (alikeHere
       (withVisit (renumbered w (askedStatus (askedOf kind) (w .passage .status)) kind) (w .passage .home) (homeAsked w kind))
@@ -238,8 +238,8 @@ module _ (w : View) (l : Ledger) (kind : Kind) (h : Holds w l)
       (withAnswer (openedRound (w .passage .round) kind) (w .passage .home) (figuresOf (homeAsked w kind)) .answered)
       (withAnswer (openedRound (w .passage .round) kind) (w .passage .home) (figuresOf (homeAsked w kind)) .figures))
       (withLast l (w .passage .home) (homeAsked w kind))
-  home-kept =
-      answer-kept
+  holds-after-home =
+      holds-after-answer
       (withVisit (renumbered w (askedStatus (askedOf kind) (w .passage .status)) kind) (w .passage .home) (homeAsked w kind))
       (withLast l (w .passage .home) (homeAsked w kind))
       (w .passage .home)
@@ -251,9 +251,9 @@ module _ (w : View) (l : Ledger) (kind : Kind) (h : Holds w l)
       (λ e. false≢true (ap isPhaseTwo e))
       used
 
-  pub opened-kept : Holds (openedView w kind) (withLast l (w .passage .home) (homeAsked w kind))
-  opened-kept =
-      restated-kept
+  pub holds-after-opened : Holds (openedView w kind) (withLast l (w .passage .home) (homeAsked w kind))
+  holds-after-opened =
+      holds-after-restated
       (alikeHere
       (withVisit (renumbered w (askedStatus (askedOf kind) (w .passage .status)) kind) (w .passage .home) (homeAsked w kind))
       (askedStatus (askedOf kind) (w .passage .status))
@@ -263,7 +263,7 @@ module _ (w : View) (l : Ledger) (kind : Kind) (h : Holds w l)
       (withLast l (w .passage .home) (homeAsked w kind))
       (askedStatus (askedOf kind) (w .passage .status))
       Phase.One
-      home-kept
+      holds-after-home
       used
       (λ e. e)
       (λ e. answered-here (openedRound (w .passage .round) kind) (w .passage .home) (figuresOf (homeAsked w kind)) (h .passage .home))

@@ -15,7 +15,7 @@ use Rattle.runs.specs.Walk.Put.{same-or-other}
 use Rattle.runs.specs.Times.View.{View, Ledger}
 use Rattle.runs.specs.Times.Clauses.{Below, Quiet, Kept, FigureFine, EdgeFine, Holds}
 use Rattle.runs.specs.Kept.Masks.{answered-here, answered-other, mask-lt}
-use Rattle.runs.specs.Kept.Same.{alike, alikeView, body-kept, site-kept}
+use Rattle.runs.specs.Kept.Same.{alike, alikeView, body-after-alike, site-after-alike}
 
 -- the same visits, clocks and messages
 abbrev pub alikeHere : View → Status → Phase → ℕ → List Figures → View
@@ -67,14 +67,14 @@ module _ (w : View) (l : Ledger) (status : Status) (phase : Phase) (answered : �
         figures = λ e i f y. ⊎-elim (λ z. x .edges v d k f h e i z) (λ z. h .figures e i f (inr z)) y;
       }
 
-  pub alike-kept : Holds w l → Holds (alikeHere w status phase answered figures) l
-  alike-kept h =
+  pub holds-after-alike : Holds w l → Holds (alikeHere w status phase answered figures) l
+  holds-after-alike h =
       record {
         free = λ e. absurd (x .used e);
         mirror = h .mirror;
         sites =
             λ s e.
-            site-kept
+            site-after-alike
             w
             status
             phase
@@ -95,7 +95,7 @@ module _ (w : View) (l : Ledger) (status : Status) (phase : Phase) (answered : �
         posted = h .posted;
         mail =
             λ k.
-            body-kept
+            body-after-alike
             w
             status
             phase
@@ -135,7 +135,7 @@ restated w status phase =
 kept-fine : (w : View) (l : Ledger) → Holds w l → (v : ℕ) (f : Figures) → Kept (w .passage .round) v f → FigureFine w l v f
 kept-fine w l h v f (i, e, g) = rw g (h .passage .kept v i e)
 
-pub restated-kept :
+pub holds-after-restated :
     (w : View) (l : Ledger) (status : Status) (phase : Phase) → Holds w l
     → (status ≢ Status.Free)
     → (isOver (w .passage .status) ≡ true → isOver status ≡ true)
@@ -146,8 +146,8 @@ pub restated-kept :
     → l s .last .quiesce ≤ largestQuiesce (withPhase (w .passage .round) phase))
     → (w .passage .round .kind ≡ Kind.Terminate → phase ≢ Phase.None → status ≡ Status.Aborted)
     → Holds (restated w status phase) l
-restated-kept w l status phase h used over home two quiet largest aborted =
-    alike-kept
+holds-after-restated w l status phase h used over home two quiet largest aborted =
+    holds-after-alike
     w
     l
     status
@@ -170,10 +170,10 @@ restated-kept w l status phase h used over home two quiet largest aborted =
     h
 
 -- "status aborted, round phase none"
-pub aborted-kept :
+pub holds-after-aborted :
     (w : View) (l : Ledger) → Holds w l → Holds (restated w Status.Aborted Phase.None) l
-aborted-kept w l h =
-    restated-kept
+holds-after-aborted w l h =
+    holds-after-restated
     w
     l
     Status.Aborted
@@ -219,7 +219,7 @@ module _ (w : View) (l : Ledger) (s : ℕ) (f : Figures) (h : Holds w l) (i : s 
           pastFigures
           (rw (h .passage .figures) i))
 
-  pub answer-kept :
+  pub holds-after-answer :
       Holds
       (alikeHere
       w
@@ -228,8 +228,8 @@ module _ (w : View) (l : Ledger) (s : ℕ) (f : Figures) (h : Holds w l) (i : s 
       (withAnswer (w .passage .round) s f .answered)
       (withAnswer (w .passage .round) s f .figures))
       l
-  answer-kept =
-      alike-kept
+  holds-after-answer =
+      holds-after-alike
       w
       l
       (w .passage .status)

@@ -36,11 +36,11 @@ module _ (w : View) (status : Status) (phase : Phase) (answered : ℕ) (figures 
     (below : (q : ℕ) → Below w l q → Below (alikeView w status phase answered figures visit clock mail) l q)
     (quiet : Quiet w l → Quiet (alikeView w status phase answered figures visit clock mail) l)
     (edges : (v d k : ℕ) → EdgeFine w l v d k → EdgeFine (alikeView w status phase answered figures visit clock mail) l v d k) where
-  pub figure-kept : (v : ℕ) (f : Figures) → FigureFine w l v f → FigureFine (alikeView w status phase answered figures visit clock mail) l v f
-  figure-kept v f h = record { seen = h .seen; answered = h .answered; bound = h .bound }
+  pub figure-after-alike : (v : ℕ) (f : Figures) → FigureFine w l v f → FigureFine (alikeView w status phase answered figures visit clock mail) l v f
+  figure-after-alike v f h = record { seen = h .seen; answered = h .answered; bound = h .bound }
 
-  pub call-kept : (m : Message) (c : Call) → CallFine w l m c → CallFine (alikeView w status phase answered figures visit clock mail) l m c
-  call-kept m c h =
+  pub call-after-alike : (m : Message) (c : Call) → CallFine w l m c → CallFine (alikeView w status phase answered figures visit clock mail) l m c
+  call-after-alike m c h =
       record {
         number = h .number;
         edge = edges (m .source) (m .destination) (c .round) (h .edge);
@@ -49,34 +49,34 @@ module _ (w : View) (status : Status) (phase : Phase) (answered : ℕ) (figures 
         bound = h .bound;
       }
 
-  pub told-kept : (m : Message) (n : ℕ) (d : Told) → ToldFine w l m n d → ToldFine (alikeView w status phase answered figures visit clock mail) l m n d
-  told-kept m n (Told.Refresh q) h =
+  pub told-after-alike : (m : Message) (n : ℕ) (d : Told) → ToldFine w l m n d → ToldFine (alikeView w status phase answered figures visit clock mail) l m n d
+  told-after-alike m n (Told.Refresh q) h =
       record {
         seen = h .seen;
         number = h .number;
         late = λ e. below q (h .late e);
         kind = h .kind;
       }
-  told-kept m n (Told.Terminate x) h = (quiet (h .0), h .1)
-  told-kept m n Told.Prepare h = quiet h
+  told-after-alike m n (Told.Terminate x) h = (quiet (h .0), h .1)
+  told-after-alike m n Told.Prepare h = quiet h
 
-  pub body-kept : (m : Message) (b : Body) → BodyFine w l m b → BodyFine (alikeView w status phase answered figures visit clock mail) l m b
-  body-kept m b h =
+  pub body-after-alike : (m : Message) (b : Body) → BodyFine w l m b → BodyFine (alikeView w status phase answered figures visit clock mail) l m b
+  body-after-alike m b h =
       record {
-        call = λ c e. call-kept m c (h .call c e);
+        call = λ c e. call-after-alike m c (h .call c e);
         one = λ n a e. let f = h .one n a e in record { number = f .number; away = f .away; kind = f .kind };
-        two = λ n d e. (h .two n d e .0, told-kept m n d (h .two n d e .1));
-        answer = λ n r q e. (h .answer n r q e .0, λ i. figure-kept (m .source) _ (h .answer n r q e .1 i));
+        two = λ n d e. (h .two n d e .0, told-after-alike m n d (h .two n d e .1));
+        answer = λ n r q e. (h .answer n r q e .0, λ i. figure-after-alike (m .source) _ (h .answer n r q e .1 i));
       }
 
   -- at a site whose clock did not go back; its visit is there if it was, or it went at its time
-  pub site-kept :
+  pub site-after-alike :
       (s : ℕ) → w .clock s ≤ clock s
       → (visit s .there ≡ false → (w .visit s .there ≡ false) ⊎ ((l s .last .release ≤ clock s) ⊎ Quiet w l))
       → (phase ≡ Phase.Two → w .passage .round .kind ≡ Kind.Terminate
       → l s .last .quiesce ≤ largestQuiesce (alike (w .passage) status phase answered figures .round))
       → SiteFine w l s → SiteFine (alikeView w status phase answered figures visit clock mail) l s
-  site-kept s c went largest h =
+  site-after-alike s c went largest h =
       record {
         place = h .place;
         counts = h .counts;

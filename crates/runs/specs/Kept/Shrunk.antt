@@ -10,7 +10,7 @@ use Rattle.rules.specs.Parts.{isEmpty}
 use Rattle.runs.specs.Types.{Figures, Visit, Body, Message}
 use Rattle.runs.specs.Walk.Says.{bodyKind}
 use Rattle.runs.specs.Times.View.{View, Ledger}
-use Rattle.runs.specs.Kept.Same.{body-kept, site-kept}
+use Rattle.runs.specs.Kept.Same.{body-after-alike, site-after-alike}
 use Rattle.runs.specs.Times.ClausesLaws.{empty-clause, empty-quiet}
 use Rattle.runs.specs.Times.Clauses.{Below, Quiet, Figure, FigureFine, EdgeFine, SiteFine, BodyFine, PassageFine, FreeFine, isCallTo, callsTo, Balanced, Holds}
 
@@ -33,7 +33,7 @@ module _ (w : View) (visit : ℕ → Visit) (clock : ℕ → ℕ) (mail : ℕ �
     (edges : (v d k : ℕ) → EdgeFine w l v d k → EdgeFine (around w visit clock mail) l v d k) where
   pub body-around : (m : Message) (b : Body) → BodyFine w l m b → BodyFine (around w visit clock mail) l m b
   body-around m b h =
-      body-kept
+      body-after-alike
       w
       (w .passage .status)
       (w .passage .round .phase)
@@ -55,7 +55,7 @@ module _ (w : View) (visit : ℕ → Visit) (clock : ℕ → ℕ) (mail : ℕ �
       → (visit s .there ≡ false → (w .visit s .there ≡ false) ⊎ ((l s .last .release ≤ clock s) ⊎ Quiet w l))
       → SiteFine w l s → SiteFine (around w visit clock mail) l s
   site-around s c went h =
-      site-kept
+      site-after-alike
       w
       (w .passage .status)
       (w .passage .round .phase)

@@ -10,7 +10,7 @@ use Rattle.runs.specs.Walk.Says.{isBinding}
 use Rattle.runs.specs.Times.View.{View, Ledger}
 use Rattle.runs.specs.Times.Clauses.{Below, Quiet, SiteFine, Holds}
 use Rattle.runs.specs.Times.ClausesLaws.{call-says, late-says, terminate-says}
-use Rattle.runs.specs.Kept.Visit.{withVisit, withLast, revised-kept}
+use Rattle.runs.specs.Kept.Visit.{withVisit, withLast, holds-after-revised}
 
 -- what is below every release stays so when it is smaller
 pub below-le : (w : View) (l : Ledger) (p q : ℕ) → p ≤ q → Below w l q → Below w l p
@@ -32,15 +32,15 @@ module _ (w : View) (l : Ledger) (a : ℕ) (v : Visit) (h : Holds w l) (was : w 
   last-here : l a .last ≡ w .visit a
   last-here = h .mirror a was .1
 
-  pub lowered-kept :
+  pub holds-after-lowered :
       v .there ≡ true → v .sent ≡ w .visit a .sent → v .received ≡ w .visit a .received
       → w .visit a .round ≤ v .round → v .round ≤ w .passage .round .number
       → v .quiesce ≤ w .visit a .quiesce → w .visit a .release ≤ v .release
       → ((q r : ℕ) → w .passage .round .kind ≡ Kind.Refresh q r → v .round ≡ w .passage .round .number → r ≤ v .release)
       → (isBinding (w .passage .round .kind) ≡ true → v .round ≡ w .passage .round .number → v .quiesce ≤ w .clock a)
       → Holds (withVisit w a v) (withLast l a v)
-  lowered-kept there sent received rises number down up one bound =
-      revised-kept
+  holds-after-lowered there sent received rises number down up one bound =
+      holds-after-revised
       w
       l
       a
@@ -98,11 +98,11 @@ module _ (w : View) (l : Ledger) (a : ℕ) (v : Visit) (h : Holds w l) (was : w 
 
 -- ---- "Q := min(Q, clock)", with any marks
 
-pub quieted-kept :
+pub holds-after-quieted :
     (w : View) (l : Ledger) (a : ℕ) (prepared dead : Bool) → Holds w l → w .visit a .there ≡ true
     → Holds (withVisit w a (quieted (w .visit a) (w .clock a) prepared dead)) (withLast l a (quieted (w .visit a) (w .clock a) prepared dead))
-quieted-kept w l a prepared dead h was =
-    lowered-kept
+holds-after-quieted w l a prepared dead h was =
+    holds-after-lowered
     w
     l
     a
@@ -151,14 +151,14 @@ asked-says Asked.Terminate n clock v =
 asked-says Asked.Prepare n clock v =
     record { there = refl; sent = refl; received = refl; round = refl; quiesce = omega arith; release = omega arith }
 
-pub asked-kept :
+pub holds-after-asked :
     (w : View) (l : Ledger) (a : ℕ) (asked : Asked) (n : ℕ) → Holds w l → w .visit a .there ≡ true
     → w .visit a .round < n → n ≤ w .passage .round .number
     → (n ≡ w .passage .round .number → asked ≡ askedOf (w .passage .round .kind))
     → Holds (withVisit w a (askedVisit asked n (w .clock a) (w .visit a))) (withLast l a (askedVisit asked n (w .clock a) (w .visit a)))
-asked-kept w l a asked n h was below most kind =
+holds-after-asked w l a asked n h was below most kind =
     let y : AskedSays asked n (w .clock a) (w .visit a) = asked-says asked n (w .clock a) (w .visit a) in
-    lowered-kept
+    holds-after-lowered
     w
     l
     a
@@ -180,14 +180,14 @@ asked-kept w l a asked n h was below most kind =
 -- ---- phase 2 of a refresh: "Q := max(Q, new Q)", where the new Q is below every release, the passage is not quiet,
 -- and a binding round has not come to this visit
 
-pub told-refresh-kept :
+pub holds-after-told-refresh :
     (w : View) (l : Ledger) (a q : ℕ) → Holds w l → w .visit a .there ≡ true → Below w l q → (Quiet w l → ⊥)
     → (isBinding (w .passage .round .kind) ≡ true → w .visit a .round ≢ w .passage .round .number)
     → Holds
     (withVisit w a (withTimes (w .visit a) (max (w .visit a .quiesce) q) (w .visit a .release)))
     (withLast l a (withTimes (w .visit a) (max (w .visit a .quiesce) q) (w .visit a .release)))
-told-refresh-kept w l a q h was b restless loose =
-    revised-kept
+holds-after-told-refresh w l a q h was b restless loose =
+    holds-after-revised
     w
     l
     a
@@ -239,14 +239,14 @@ told-refresh-kept w l a q h was b restless loose =
 
 -- ---- phase 2 of a terminate: "R := min(R, M)", where the passage is quiet and every quiesce time is at most M
 
-pub told-terminate-kept :
+pub holds-after-told-terminate :
     (w : View) (l : Ledger) (a m : ℕ) → Holds w l → w .visit a .there ≡ true → Quiet w l
     → ((s : ℕ) → l s .seen ≡ true → l s .last .quiesce ≤ m)
     → Holds
     (withVisit w a (withTimes (w .visit a) (w .visit a .quiesce) (min (w .visit a .release) m)))
     (withLast l a (withTimes (w .visit a) (w .visit a .quiesce) (min (w .visit a .release) m)))
-told-terminate-kept w l a m h was y most =
-    revised-kept
+holds-after-told-terminate w l a m h was y most =
+    holds-after-revised
     w
     l
     a

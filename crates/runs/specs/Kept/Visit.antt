@@ -268,8 +268,8 @@ module _ (w : View) (l : Ledger) (a : ℕ) (v : Visit) (Needed : ℕ → Type 0)
         largest = λ p k. rw o (x .largest p k);
       }
 
-  pub revised-kept : Holds (withVisit w a v) (withLast l a v)
-  revised-kept =
+  pub holds-after-revised : Holds (withVisit w a v) (withLast l a v)
+  holds-after-revised =
       record {
         free = λ e. absurd (true≢false (sym (x .was) ∙ h .free e .visits a));
         mirror =

@@ -27,7 +27,7 @@ use Rattle.runs.specs.Walk.Says.{isPrepare, tellsPrepare, carriesCommit}
 use Rattle.runs.specs.Walk.Put.{same-or-other, set-at}
 use Rattle.runs.specs.Walk.Sound.{Sound, sound-step-has}
 use Rattle.runs.specs.Times.Ledgers.{seenAt}
-use Rattle.runs.specs.Orphans.Rests.{commits, Stands, Turned, stands-after-turned, standing-after-call, stands-after-freed, standing-after-restored, unheld-after-restored}
+use Rattle.runs.specs.Orphans.Rests.{commits, Stands, Turned, standing-after-turned, standing-after-call, stands-after-freed, standing-after-restored, unheld-after-restored}
 
 -- ---- the records that a step leaves
 
@@ -36,19 +36,19 @@ abbrev AllStand : Bool → List Object → List Object → Type 0
 AllStand commit os left = (i : ℕ) → i < 4 → Stands commit (getD os i pastObject) (getD left i pastObject)
 
 -- objects that stay
-same-stand : (commit : Bool) (os left : List Object) → left ≡ os → AllStand commit os left
-same-stand commit os left e i l = inl (rw e)
+standing-after-same : (commit : Bool) (os left : List Object) → left ≡ os → AllStand commit os left
+standing-after-same commit os left e i l = inl (rw e)
 
 -- a refusal keeps what was seen
-settled-stand :
+standing-after-settled :
     (commit : Bool) (cs : List Check) (v : ℕ) (seen left : Seen) → AllStand commit (seen .objects) (left .objects)
     → AllStand commit (seen .objects) (settleOf (record { answer = firstOf cs v; left = left }) seen .left .objects)
-settled-stand commit cs v seen left h =
-    settled (λ (x : Seen). AllStand commit (seen .objects) (x .objects)) cs v seen left (λ g. h) (same-stand commit (seen .objects) (seen .objects) refl)
+standing-after-settled commit cs v seen left h =
+    settled (λ (x : Seen). AllStand commit (seen .objects) (x .objects)) cs v seen left (λ g. h) (standing-after-same commit (seen .objects) (seen .objects) refl)
 
 -- a delivered call saves the value before, once
-called-stand : (c : Call) (clock : ℕ) (seen : Seen) → AllStand false (seen .objects) (called c clock seen .objects)
-called-stand c clock seen i l =
+standing-after-called : (c : Call) (clock : ℕ) (seen : Seen) → AllStand false (seen .objects) (called c clock seen .objects)
+standing-after-called c clock seen i l =
     set-at
     (λ j o. Stands false (getD (seen .objects) j pastObject) o)
     (seen .objects)
@@ -60,10 +60,10 @@ called-stand c clock seen i l =
     (inl (standing-after-call (mailSlot seen) c (calledObject c seen)))
 
 -- phase 2 frees under a prepare alone
-told-stand : (told : Told) (p : ℕ) (os : List Object) → AllStand (tellsPrepare told) os (toldObjects told p os)
-told-stand (Told.Refresh q) p os i l = inl refl
-told-stand (Told.Terminate m) p os i l = inl refl
-told-stand Told.Prepare p os i l =
+standing-after-told : (told : Told) (p : ℕ) (os : List Object) → AllStand (tellsPrepare told) os (toldObjects told p os)
+standing-after-told (Told.Refresh q) p os i l = inl refl
+standing-after-told (Told.Terminate m) p os i l = inl refl
+standing-after-told Told.Prepare p os i l =
     rw (each-at (freed p) os i l) (stands-after-freed p (getD os i pastObject))
 
 -- what a round of this kind tells is a commit where the kind is prepare
@@ -74,21 +74,21 @@ told-commits Kind.Terminate m = refl
 told-commits Kind.Prepare m = refl
 
 -- close does it where the home visit is there
-closed-stand :
+standing-after-closed :
     (told : Told) (p clock : ℕ) (seen : Seen) → AllStand (tellsPrepare told) (seen .objects) (closed told p clock seen .objects)
-closed-stand told p clock seen =
+standing-after-closed told p clock seen =
     cond-keeps
     (AllStand (tellsPrepare told) (seen .objects))
     (seen .visit .there)
     _
     (seen .objects)
-    (told-stand told p (seen .objects))
-    (same-stand (tellsPrepare told) (seen .objects) (seen .objects) refl)
+    (standing-after-told told p (seen .objects))
+    (standing-after-same (tellsPrepare told) (seen .objects) (seen .objects) refl)
 
-close-stand : (h : ℕ) (seen : Seen) → AllStand (isPrepare (seen .passage .round .kind)) (seen .objects) (closeOf h seen .left .objects)
+standing-after-close : (h : ℕ) (seen : Seen) → AllStand (isPrepare (seen .passage .round .kind)) (seen .objects) (closeOf h seen .left .objects)
 unfolding closeOf
-close-stand h seen =
-    settled-stand
+standing-after-close h seen =
+    standing-after-settled
     (isPrepare (seen .passage .round .kind))
     _
     _
@@ -97,29 +97,29 @@ close-stand h seen =
     (subst
     (λ (b : Bool). AllStand b (seen .objects) (closed (roundTold (seen .passage .round)) (slotOf h) (nextClock (seen .site)) seen .objects))
     (told-commits (seen .passage .round .kind) (largestQuiesce (seen .passage .round)))
-    (closed-stand (roundTold (seen .passage .round)) (slotOf h) (nextClock (seen .site)) seen))
+    (standing-after-closed (roundTold (seen .passage .round)) (slotOf h) (nextClock (seen .site)) seen))
 
-mail-stand :
+standing-after-mail :
     (body : Body) (m : ℕ) (seen : Seen) → Mail body → AllStand (carriesCommit body) (seen .objects) (deliverBodyOf body m seen .left .objects)
 unfolding deliverBodyOf deliverCallOf deliverPhaseOneOf deliverPhaseTwoOf
-mail-stand _ m seen (Mail.Calls c) = settled-stand false _ _ seen _ (called-stand c (mailClock seen) seen)
-mail-stand _ m seen (Mail.Asks n asked) = settled-stand false _ _ seen _ (same-stand false (seen .objects) _ refl)
-mail-stand _ m seen (Mail.Tells n told) =
-    settled-stand (tellsPrepare told) _ _ seen _ (told-stand told (mailSlot seen) (seen .objects))
-mail-stand _ m seen (Mail.Quiet body objects visit) = same-stand (carriesCommit body) (seen .objects) _ (objects m seen)
+standing-after-mail _ m seen (Mail.Calls c) = standing-after-settled false _ _ seen _ (standing-after-called c (mailClock seen) seen)
+standing-after-mail _ m seen (Mail.Asks n asked) = standing-after-settled false _ _ seen _ (standing-after-same false (seen .objects) _ refl)
+standing-after-mail _ m seen (Mail.Tells n told) =
+    standing-after-settled (tellsPrepare told) _ _ seen _ (standing-after-told told (mailSlot seen) (seen .objects))
+standing-after-mail _ m seen (Mail.Quiet body objects visit) = standing-after-same (carriesCommit body) (seen .objects) _ (objects m seen)
 
-seen-stand :
+standing-after-seen :
     (step : Step) (found : Found) (seen : Seen) → Objects step
     → AllStand (commits step seen) (seen .objects) (decideOf step found seen .left .objects)
 unfolding decideOf
-seen-stand _ found seen (Objects.Closes h) = close-stand h seen
-seen-stand _ found seen (Objects.Delivers m) = mail-stand (seen .message .body) m seen (mailOf (seen .message .body))
-seen-stand _ found seen (Objects.Stay step c d stay) = same-stand (commits step seen) (seen .objects) _ (stay found seen)
+standing-after-seen _ found seen (Objects.Closes h) = standing-after-close h seen
+standing-after-seen _ found seen (Objects.Delivers m) = standing-after-mail (seen .message .body) m seen (mailOf (seen .message .body))
+standing-after-seen _ found seen (Objects.Stay step c d stay) = standing-after-same (commits step seen) (seen .objects) _ (stay found seen)
 
-decided-stand :
+standing-after-decided :
     (step : Step) (found : Found) (seen : Seen)
     → AllStand (commits step seen) (seen .objects) (decideOf step found seen .left .objects)
-decided-stand step found seen = seen-stand step found seen (deedOf step .objects)
+standing-after-decided step found seen = standing-after-seen step found seen (deedOf step .objects)
 
 -- ---- the store
 
@@ -146,11 +146,11 @@ module _ (P : Object → Object → Type 0) (same : (o : Object) → P o o) (t :
           (seen-object-at t (at .bank) (k % 4) (omega arith))
           (four (k % 4) (omega arith)))
 
-head-stands :
+standing-after-head :
     (t : Tables) (step : Step) → Sound t → (k : ℕ)
     → Stands (commits step (seenAt t step)) (objectAt t k) (objectAt (headOf t step .tables) k)
 unfolding headOf
-head-stands t step z =
+standing-after-head t step z =
     stored-all
     (Stands (commits step (seenAt t step)))
     (λ o. inl refl)
@@ -159,7 +159,7 @@ head-stands t step z =
     _
     (z .sized)
     (placed-places t (lookOf step))
-    (decided-stand step _ (seenAt t step))
+    (standing-after-decided step _ (seenAt t step))
 
 -- ---- the turns of a sweep and of a crash
 
@@ -199,18 +199,18 @@ turn-turned trip slot o l z k =
 
 -- ---- so through all turns, and for every step, accepted or not
 
-pub step-stands :
+pub standing-after-step :
     (t : Tables) (step : Step) → Sound t → (k : ℕ)
     → Stands (commits step (seenAt t step)) (objectAt t k) (objectAt (stepOf t step .tables) k)
-step-stands t step z k =
+standing-after-step t step z k =
     let commit : Bool = commits step (seenAt t step) in
     sound-step-has
     t
     step
     z
     (λ n u. Stands commit (objectAt t k) (objectAt u k))
-    (λ n o l y e. stands-after-turned commit (objectAt t k) (objectAt (o .tables) k) _ e (turn-turned (lookOf step .trip) n o l y k))
-    (λ a. head-stands t step z k)
+    (λ n o l y e. standing-after-turned commit (objectAt t k) (objectAt (o .tables) k) _ e (turn-turned (lookOf step .trip) n o l y k))
+    (λ a. standing-after-head t step z k)
     (λ u. Stands commit (objectAt t k) (objectAt u k))
     (inl refl)
     (λ u e. e)

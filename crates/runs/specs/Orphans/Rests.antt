@@ -65,9 +65,9 @@ abbrev pub Turned : Object → Object → Type 0
 Turned o left = (standing left ≡ standing o) × (isUnheld o ≡ true → left ≡ o)
 
 -- a turn after the store
-pub stands-after-turned : (commit : Bool) (o left last : Object) → Stands commit o left → Turned left last → Stands commit o last
-stands-after-turned commit o left last (inl e) w = inl (w .0 ∙ e)
-stands-after-turned commit o left last (inr (c, e)) w = inr (c, w .1 (ap isUnheld e ∙ let-go-unheld (o .value)) ∙ e)
+pub standing-after-turned : (commit : Bool) (o left last : Object) → Stands commit o left → Turned left last → Stands commit o last
+standing-after-turned commit o left last (inl e) w = inl (w .0 ∙ e)
+standing-after-turned commit o left last (inr (c, e)) w = inr (c, w .1 (ap isUnheld e ∙ let-go-unheld (o .value)) ∙ e)
 
 -- ---- what each change of an object does
 

@@ -19,7 +19,7 @@ use Rattle.runs.specs.Walk.Sound.{Sound, sound-started, sound-step, soun
 use Rattle.runs.specs.Holders.Holders.{started-unheld}
 use Rattle.runs.specs.Times.Ledgers.{seenAt}
 use Rattle.runs.specs.Orphans.Rests.{isAtRest, restAfter, restFrom, restOf, HeldThrough, commits, standing, standing-unheld, Stands}
-use Rattle.runs.specs.Orphans.RestSteps.{step-stands}
+use Rattle.runs.specs.Orphans.RestSteps.{standing-after-step}
 
 -- ---- in every run the width at rest is the one that stands in the tables
 
@@ -30,7 +30,7 @@ rest-step :
 rest-step t s k rest z e =
     ⊎-elim
     (λ q. rw q)
-    (λ q. rw q (held q (step-stands t s z k)))
+    (λ q. rw q (held q (standing-after-step t s z k)))
     (either (isAtRest (stepOf t s .tables) k))
   where
     held :
@@ -52,27 +52,27 @@ rest-from t (s ∷ ss) k rest z e =
 started-at-rest : {t₀ : Tables} → Started t₀ → (k : ℕ) → isAtRest t₀ k ≡ true
 started-at-rest = started-unheld
 
-pub rest-stands : {t₀ : Tables} → Started t₀ → (ss : List Step) (k : ℕ) → restOf t₀ ss k ≡ standing (objectAt (runOf t₀ ss) k)
+pub rest-is-standing : {t₀ : Tables} → Started t₀ → (ss : List Step) (k : ℕ) → restOf t₀ ss k ≡ standing (objectAt (runOf t₀ ss) k)
 unfolding restOf
-rest-stands {t₀} fresh ss k =
+rest-is-standing {t₀} fresh ss k =
     rest-from t₀ ss k (objectAt t₀ k .value) (sound-started fresh) (sym (standing-unheld (objectAt t₀ k) (started-at-rest fresh k)))
 
 -- so an object that is held has it as its value before
 pub before-is-rest :
     {t₀ : Tables} → Started t₀ → (ss : List Step) (k : ℕ) → isAtRest (runOf t₀ ss) k ≡ false → objectAt (runOf t₀ ss) k .before ≡ restOf t₀ ss k
-before-is-rest {t₀} fresh ss k e = rw (rest-stands fresh ss k, e)
+before-is-rest {t₀} fresh ss k e = rw (rest-is-standing fresh ss k, e)
 
 -- and one that nobody holds has it as its value
 pub value-is-rest :
     {t₀ : Tables} → Started t₀ → (ss : List Step) (k : ℕ) → isAtRest (runOf t₀ ss) k ≡ true → objectAt (runOf t₀ ss) k .value ≡ restOf t₀ ss k
-value-is-rest {t₀} fresh ss k e = rw (rest-stands fresh ss k, e)
+value-is-rest {t₀} fresh ss k e = rw (rest-is-standing fresh ss k, e)
 
 -- ---- one more step
 
 -- the step leaves this width at rest
 rest-after-step : {t₀ : Tables} → Started t₀ → (ss : List Step) (s : Step) (k : ℕ) → restOf t₀ (ss ++ (s ∷ [])) k ≡ standing (objectAt (stepOf (runOf t₀ ss) s .tables) k)
 unfolding runOf
-rest-after-step {t₀} fresh ss s k = rest-stands fresh (ss ++ (s ∷ [])) k ∙ ap (λ (t : Tables). standing (objectAt t k)) (run-on t₀ ss (s ∷ []))
+rest-after-step {t₀} fresh ss s k = rest-is-standing fresh (ss ++ (s ∷ [])) k ∙ ap (λ (t : Tables). standing (objectAt t k)) (run-on t₀ ss (s ∷ []))
 
 -- what is known of a step that changes the width at rest of object k: it is accepted, it commits, and the new width is the value that stood written
 pub record Committed (t₀ : Tables) (ss : List Step) (s : Step) (k : ℕ) : Type 0 where
@@ -99,12 +99,12 @@ only-commits-change {t₀} fresh ss s k changed =
     }
   where
     stands : Stands (commits s (seenAt (runOf t₀ ss) s)) (objectAt (runOf t₀ ss) k) (objectAt (stepOf (runOf t₀ ss) s .tables) k)
-    stands = step-stands (runOf t₀ ss) s (sound-run fresh ss) k
+    stands = standing-after-step (runOf t₀ ss) s (sound-run fresh ss) k
 
     same :
         standing (objectAt (stepOf (runOf t₀ ss) s .tables) k) ≡ standing (objectAt (runOf t₀ ss) k)
         → restOf t₀ (ss ++ (s ∷ [])) k ≡ restOf t₀ ss k
-    same e = rest-after-step fresh ss s k ∙ e ∙ sym (rest-stands fresh ss k)
+    same e = rest-after-step fresh ss s k ∙ e ∙ sym (rest-is-standing fresh ss k)
 
 -- ---- the sweep
 
@@ -117,8 +117,8 @@ rest-after-sweep {t₀} fresh ss site k free =
     ∙ ⊎-elim
     (λ e. e)
     (λ e. absurd (false≢true (e .0)))
-    (step-stands (runOf t₀ ss) (Step.Sweep site) (sound-run fresh ss) k)
-    ∙ sym (rest-stands fresh ss k)
+    (standing-after-step (runOf t₀ ss) (Step.Sweep site) (sound-run fresh ss) k)
+    ∙ sym (rest-is-standing fresh ss k)
 
 -- while an object is held its width at rest stays
 rest-while-held : (t : Tables) (ss : List Step) (k rest : ℕ) → HeldThrough t ss k → restFrom t ss k rest ≡ rest

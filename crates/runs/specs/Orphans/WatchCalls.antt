@@ -17,28 +17,28 @@ use Rattle.runs.specs.Types.{Visit, Call, Asked, Told, Body, Message, Ta
 use Rattle.runs.specs.Times.View.{View, viewOf}
 use Rattle.runs.specs.Times.Store.{own-body, reply-own}
 use Rattle.runs.specs.Orphans.WatchKept.{BodyKeeps}
-use Rattle.runs.specs.Orphans.WatchMailKept.{mail-keeps, empty-keeps, seen-keeps}
-use Rattle.runs.specs.Orphans.WatchPassageKept.{passage-stays, answered-keeps, asked-home, told-home}
-use Rattle.runs.specs.Orphans.WatchVisitKept.{visit-stays, sent-keeps, asked-keeps, told-keeps, called-keeps}
+use Rattle.runs.specs.Orphans.WatchMailKept.{mail-after-same, mail-after-empty, mail-after-seen}
+use Rattle.runs.specs.Orphans.WatchPassageKept.{passage-after-same, passage-after-answered, asked-home, told-home}
+use Rattle.runs.specs.Orphans.WatchVisitKept.{visit-after-same, visit-after-sent, visit-after-asked, visit-after-told, visit-after-called}
 use Rattle.runs.specs.Orphans.WatchStore.{Keeps}
 
 -- ---- invoke: the call has the times of a visit that is there
 
-pub invoked-keeps :
+pub watch-after-invoked :
     (latest : ℕ) (t : Tables) (at : Places) (h site write object value place : ℕ) → slotOf h ≡ at .slot
     → Fine (invokeChecks h site write object value (seenOf t at))
     → Keeps latest t at (invokeDone h site write object value place (seenOf t at) .left)
-invoked-keeps latest t at h site write object value place own fine =
+watch-after-invoked latest t at h site write object value place own fine =
     record {
       clock = omega arith;
       mail = inr (inl (invoke-empty h site write object value (seenOf t at) fine), inr own);
       own =
           λ e.
           record {
-            passage = passage-stays latest (viewOf t (at .slot)) e;
-            visit = sent-keeps latest (viewOf t (at .slot)) (at .site) (callSite object);
+            passage = passage-after-same latest (viewOf t (at .slot)) e;
+            visit = visit-after-sent latest (viewOf t (at .slot)) (at .site) (callSite object);
             mail =
-                seen-keeps
+                mail-after-seen
                 latest
                 (viewOf t (at .slot))
                 (at .slot)
@@ -68,50 +68,50 @@ module _ (latest : ℕ) (t : Tables) (at : Places) (m : ℕ) (own : slotOf (mess
   view = viewOf t (at .slot)
 
   -- so what its body says is kept by the view
-  letter-keeps : (b : Body) → letter .body ≡ b → isEmpty b ≡ false → BodyKeeps latest view b
-  letter-keeps b body full =
+  watch-after-letter : (b : Body) → letter .body ≡ b → isEmpty b ≡ false → BodyKeeps latest view b
+  watch-after-letter b body full =
       subst
       (BodyKeeps latest view)
       (own-body (at .slot) letter b body full own)
-      (mail-keeps latest view (at .message))
+      (mail-after-same latest view (at .message))
 
-  pub call-keeps : (c : Call) → letter .body ≡ Body.Call c → Fine (callChecks m c seen) → Keeps latest t at (callDone m c seen .left)
-  call-keeps c body fine =
+  pub watch-after-call : (c : Call) → letter .body ≡ Body.Call c → Fine (callChecks m c seen) → Keeps latest t at (callDone m c seen .left)
+  watch-after-call c body fine =
       record {
         clock = omega arith;
         mail = inr (inr own, inl refl);
         own =
             λ e.
             record {
-              passage = passage-stays latest view e;
+              passage = passage-after-same latest view e;
               visit =
-                  called-keeps
+                  visit-after-called
                   latest
                   view
                   (at .site)
                   (mailClock seen)
                   c
                   (omega arith)
-                  (letter-keeps (Body.Call c) body refl)
+                  (watch-after-letter (Body.Call c) body refl)
                   (leb-false _ _ (or-left _ (calledVisit c (visitAt t (at .site) (at .slot)) .dead) (fine .early)));
-              mail = empty-keeps latest view;
+              mail = mail-after-empty latest view;
             };
       }
 
   -- the answer brings no time
-  reply-keeps : (v : Visit) → BodyKeeps latest view (replyOf v (mailClock seen) seen .body)
-  reply-keeps v =
+  watch-after-reply : (v : Visit) → BodyKeeps latest view (replyOf v (mailClock seen) seen .body)
+  watch-after-reply v =
       cond-keeps
       (λ (x : Message). BodyKeeps latest view (x .body))
       (atHome seen)
       noMessage
       (answerMessage v (letter .destination) (passageAt t (at .slot) .home) (letter .handle) (mailClock seen))
-      (empty-keeps latest view)
+      (mail-after-empty latest view)
       (record { plain = λ h. refl; bounded = λ h b. zero-le })
 
-  pub phase-one-keeps :
+  pub watch-after-phase-one :
       (n : ℕ) (asked : Asked) → letter .body ≡ Body.PhaseOne n asked → Keeps latest t at (phaseOneDone m n asked seen .left)
-  phase-one-keeps n asked body =
+  watch-after-phase-one n asked body =
       record {
         clock = omega arith;
         mail = inr (inr own, reply-own (at .slot) (mailClock seen) asks seen own);
@@ -119,8 +119,8 @@ module _ (latest : ℕ) (t : Tables) (at : Places) (m : ℕ) (own : slotOf (mess
             λ e.
             record {
               passage = asked-home latest view (atHome seen) n asked says e;
-              visit = asked-keeps latest view (at .site) n (mailClock seen) asked says;
-              mail = seen-keeps latest view (at .slot) (replyOf asks (mailClock seen) seen) (reply-keeps asks);
+              visit = visit-after-asked latest view (at .site) n (mailClock seen) asked says;
+              mail = mail-after-seen latest view (at .slot) (replyOf asks (mailClock seen) seen) (watch-after-reply asks);
             };
       }
     where
@@ -128,11 +128,11 @@ module _ (latest : ℕ) (t : Tables) (at : Places) (m : ℕ) (own : slotOf (mess
       asks = askedVisit asked n (mailClock seen) (visitAt t (at .site) (at .slot))
 
       says : BodyKeeps latest view (Body.PhaseOne n asked)
-      says = letter-keeps (Body.PhaseOne n asked) body refl
+      says = watch-after-letter (Body.PhaseOne n asked) body refl
 
-  pub phase-two-keeps :
+  pub watch-after-phase-two :
       (n : ℕ) (told : Told) → letter .body ≡ Body.PhaseTwo n told → Keeps latest t at (phaseTwoDone m n told seen .left)
-  phase-two-keeps n told body =
+  watch-after-phase-two n told body =
       record {
         clock = omega arith;
         mail = inr (inr own, inl refl);
@@ -140,16 +140,16 @@ module _ (latest : ℕ) (t : Tables) (at : Places) (m : ℕ) (own : slotOf (mess
             λ e.
             record {
               passage = told-home latest view (atHome seen) n told says e;
-              visit = told-keeps latest view (at .site) n told says;
-              mail = empty-keeps latest view;
+              visit = visit-after-told latest view (at .site) n told says;
+              mail = mail-after-empty latest view;
             };
       }
     where
       says : BodyKeeps latest view (Body.PhaseTwo n told)
-      says = letter-keeps (Body.PhaseTwo n told) body refl
+      says = watch-after-letter (Body.PhaseTwo n told) body refl
 
-  pub answer-keeps : (n received q : ℕ) → Keeps latest t at (answerDone m n received q seen .left)
-  answer-keeps n received q =
+  pub watch-after-answer : (n received q : ℕ) → Keeps latest t at (answerDone m n received q seen .left)
+  watch-after-answer n received q =
       record {
         clock = omega arith;
         mail = inr (inr own, inl refl);
@@ -157,14 +157,14 @@ module _ (latest : ℕ) (t : Tables) (at : Places) (m : ℕ) (own : slotOf (mess
             λ e.
             record {
               passage =
-                  answered-keeps
+                  passage-after-answered
                   latest
                   view
                   (letter .source)
                   (record { sent = letter .sent; received = received; quiesce = q })
                   e;
-              visit = visit-stays latest view (at .site);
-              mail = empty-keeps latest view;
+              visit = visit-after-same latest view (at .site);
+              mail = mail-after-empty latest view;
             };
       }
 
@@ -173,30 +173,30 @@ module _ (latest : ℕ) (t : Tables) (at : Places) (m : ℕ) (own : slotOf (mess
       (d : Decision) → isAccepted (d .answer) ≡ true → Keeps latest t at (d .left) → Keeps latest t at (settleOf d seen .left)
   delivered-settled d e x = rw e x
 
-  pub delivered-keeps :
+  pub watch-after-delivered :
       (b : Body) → letter .body ≡ b → isAccepted (deliverBodyOf b m seen .answer) ≡ true
       → Keeps latest t at (deliverBodyOf b m seen .left)
   unfolding deliverBodyOf emptyOf deliverCallOf deliverPhaseOneOf deliverPhaseTwoOf deliverAnswerOf
-  delivered-keeps Body.Empty e y = absurd (true≢false (sym (ap isEmpty e) ∙ accepted-fine _ 0 y .found))
-  delivered-keeps (Body.Call c) e y = delivered-settled (callDone m c seen) y (call-keeps c e (accepted-fine _ _ y))
-  delivered-keeps (Body.PhaseOne n asked) e y = delivered-settled (phaseOneDone m n asked seen) y (phase-one-keeps n asked e)
-  delivered-keeps (Body.PhaseTwo n told) e y = delivered-settled (phaseTwoDone m n told seen) y (phase-two-keeps n told e)
-  delivered-keeps (Body.Answer n received q) e y = delivered-settled (answerDone m n received q seen) y (answer-keeps n received q)
+  watch-after-delivered Body.Empty e y = absurd (true≢false (sym (ap isEmpty e) ∙ accepted-fine _ 0 y .found))
+  watch-after-delivered (Body.Call c) e y = delivered-settled (callDone m c seen) y (watch-after-call c e (accepted-fine _ _ y))
+  watch-after-delivered (Body.PhaseOne n asked) e y = delivered-settled (phaseOneDone m n asked seen) y (watch-after-phase-one n asked e)
+  watch-after-delivered (Body.PhaseTwo n told) e y = delivered-settled (phaseTwoDone m n told seen) y (watch-after-phase-two n told e)
+  watch-after-delivered (Body.Answer n received q) e y = delivered-settled (answerDone m n received q seen) y (watch-after-answer n received q)
 
 -- ---- drop: the message is lost
 
-pub lost-keeps :
+pub watch-after-lost :
     (latest : ℕ) (t : Tables) (at : Places) → slotOf (messageAt t (at .message) .handle) ≡ at .slot
     → Keeps latest t at (lost (seenOf t at))
-lost-keeps latest t at own =
+watch-after-lost latest t at own =
     record {
       clock = omega arith;
       mail = inr (inr own, inl refl);
       own =
           λ e.
           record {
-            passage = passage-stays latest (viewOf t (at .slot)) e;
-            visit = visit-stays latest (viewOf t (at .slot)) (at .site);
-            mail = empty-keeps latest (viewOf t (at .slot));
+            passage = passage-after-same latest (viewOf t (at .slot)) e;
+            visit = visit-after-same latest (viewOf t (at .slot)) (at .site);
+            mail = mail-after-empty latest (viewOf t (at .slot));
           };
     }

@@ -21,19 +21,19 @@ use Rattle.runs.specs.Times.View.{mailOf, viewOf}
 use Rattle.runs.specs.Orphans.Watch.{Known}
 use Rattle.runs.specs.Fits.Life.{free-says}
 use Rattle.runs.specs.Orphans.WatchKept.{plain-left, watch-unwatched, plain-free, aborted-free, aborted-active}
-use Rattle.runs.specs.Orphans.WatchMailKept.{mail-keeps}
-use Rattle.runs.specs.Orphans.WatchPassageKept.{aborts-keeps}
-use Rattle.runs.specs.Orphans.WatchVisitKept.{where-there, quieted-keeps}
+use Rattle.runs.specs.Orphans.WatchMailKept.{mail-after-same}
+use Rattle.runs.specs.Orphans.WatchPassageKept.{passage-after-aborted}
+use Rattle.runs.specs.Orphans.WatchVisitKept.{where-there, visit-after-quieted}
 use Rattle.runs.specs.Orphans.WatchStore.{knownHead, Keeps, Guards}
 
 -- ---- begin: something else is known after it
 
 -- the slot was free: it was not watched, and had no trace of a commit round
-pub begin-guards :
+pub watch-after-begin :
     (latest site : ℕ) (t : Tables) (at : Places) (g : Known) (home slot q r : ℕ) → slotOf slot ≡ at .slot
     → Fine (beginChecks home slot q r (seenOf t at))
     → Guards latest site t at g (λ p. knownHead p t (Step.Begin home slot q r) g) (beginDone home slot q r (seenOf t at) .left)
-begin-guards latest site t at g home slot q r own fine =
+watch-after-begin latest site t at g home slot q r own fine =
     record {
       clock = omega arith;
       mail = inl refl;
@@ -73,28 +73,28 @@ begin-guards latest site t at g home slot q r own fine =
 
 -- ---- abort: the passage, and the home visit where it is there
 
-pub abort-keeps : (latest : ℕ) (t : Tables) (at : Places) (h : ℕ) → Keeps latest t at (abortDone h (seenOf t at) .left)
-abort-keeps latest t at h =
+pub watch-after-abort : (latest : ℕ) (t : Tables) (at : Places) (h : ℕ) → Keeps latest t at (abortDone h (seenOf t at) .left)
+watch-after-abort latest t at h =
     record {
       clock = omega arith;
       mail = inl refl;
       own =
           λ e.
           record {
-            passage = aborts-keeps latest (viewOf t (at .slot)) true e;
+            passage = passage-after-aborted latest (viewOf t (at .slot)) true e;
             visit =
                 where-there
                 latest
                 (viewOf t (at .slot))
                 (at .site)
                 _
-                (quieted-keeps
+                (visit-after-quieted
                 latest
                 (viewOf t (at .slot))
                 (at .site)
                 (nextClock (siteAt t (at .site)))
                 (visitAt t (at .site) (at .slot) .dead));
-            mail = mail-keeps latest (viewOf t (at .slot)) (at .message);
+            mail = mail-after-same latest (viewOf t (at .slot)) (at .message);
           };
     }
 
@@ -132,11 +132,11 @@ module _ (t : Tables) (p : ℕ) (z : Sized t) (none : remains t p ≡ false) whe
       ap (λ (m : Message). mailOf p m .body) (List·getD-eq-default (t .messages) pastMessage {n = k} (omega arith)))
       (either (ltb k 32))
 
-pub retire-guards :
+pub watch-after-retire :
     (latest site : ℕ) (t : Tables) (at : Places) (g : Known) (h : ℕ) → Sized t → slotOf h ≡ at .slot
     → Fine (retireChecks h (remains t (at .slot)) (seenOf t at))
     → Guards latest site t at g (λ p. knownHead p t (Step.Retire h) g) (retireDone h (remains t (at .slot)) (seenOf t at) .left)
-retire-guards latest site t at g h z own fine =
+watch-after-retire latest site t at g h z own fine =
     record {
       clock = omega arith;
       mail = inl refl;

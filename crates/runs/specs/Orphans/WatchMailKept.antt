@@ -15,15 +15,15 @@ use Rattle.runs.specs.Orphans.Watch.{PlainKind, Plain, Bounded}
 use Rattle.runs.specs.Orphans.WatchKept.{Ending, BodyKeeps, aborted-active}
 
 module _ (latest : ℕ) (w : View) where
-  pub mail-keeps : (k : ℕ) → BodyKeeps latest w (w .mail k .body)
-  mail-keeps k = record { plain = λ h. h .mail k; bounded = λ h b. b .mail k }
+  pub mail-after-same : (k : ℕ) → BodyKeeps latest w (w .mail k .body)
+  mail-after-same k = record { plain = λ h. h .mail k; bounded = λ h b. b .mail k }
 
-  pub empty-keeps : BodyKeeps latest w Body.Empty
-  empty-keeps = record { plain = λ h. refl; bounded = λ h b. zero-le }
+  pub mail-after-empty : BodyKeeps latest w Body.Empty
+  mail-after-empty = record { plain = λ h. refl; bounded = λ h b. zero-le }
 
   -- a message that is seen, or seen as empty
-  pub seen-keeps : (p : ℕ) (m : Message) → BodyKeeps latest w (m .body) → BodyKeeps latest w (mailOf p m .body)
-  seen-keeps p m h = cond-keeps (λ (x : Message). BodyKeeps latest w (x .body)) (isMessageOf p m) m noMessage h empty-keeps
+  pub mail-after-seen : (p : ℕ) (m : Message) → BodyKeeps latest w (m .body) → BodyKeeps latest w (mailOf p m .body)
+  mail-after-seen p m h = cond-keeps (λ (x : Message). BodyKeeps latest w (x .body)) (isMessageOf p m) m noMessage h mail-after-empty
 
 -- ---- a round's own messages
 
@@ -40,8 +40,8 @@ module _ (latest : ℕ) (w : View) (e : Ending (w .passage)) where
   no-prepare : Plain w → w .passage .round .kind ≡ Kind.Prepare → ⊥
   no-prepare h f = subst PlainKind f (h .kind)
 
-  pub ask-keeps : w .passage .round .phase ≢ Phase.None → BodyKeeps latest w (askBody (w .passage .round))
-  ask-keeps n = go (w .passage .round .kind) refl
+  pub mail-after-ask : w .passage .round .phase ≢ Phase.None → BodyKeeps latest w (askBody (w .passage .round))
+  mail-after-ask n = go (w .passage .round .kind) refl
     where
       go :
           (x : Kind) → w .passage .round .kind ≡ x
@@ -51,8 +51,8 @@ module _ (latest : ℕ) (w : View) (e : Ending (w .passage)) where
       go Kind.Terminate f = record { plain = λ h. refl; bounded = λ h b. zero-le }
       go Kind.Prepare f = record { plain = λ h. absurd (no-prepare h f); bounded = λ h b. zero-le }
 
-  pub tell-keeps : w .passage .round .phase ≢ Phase.None → BodyKeeps latest w (tellBody (w .passage .round))
-  tell-keeps n = go (w .passage .round .kind) refl
+  pub mail-after-tell : w .passage .round .phase ≢ Phase.None → BodyKeeps latest w (tellBody (w .passage .round))
+  mail-after-tell n = go (w .passage .round .kind) refl
     where
       go :
           (x : Kind) → w .passage .round .kind ≡ x

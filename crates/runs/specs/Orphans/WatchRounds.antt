@@ -15,25 +15,25 @@ use Rattle.runs.specs.Types.{Kind, Phase, Status, Asked, Body, Tables, S
 use Rattle.runs.specs.Times.View.{viewOf}
 use Rattle.runs.specs.Orphans.Watch.{Known}
 use Rattle.runs.specs.Orphans.WatchKept.{Ending, BodyKeeps, watch-unwatched, aborted-running}
-use Rattle.runs.specs.Orphans.WatchMailKept.{mail-keeps, seen-keeps, ask-keeps, tell-keeps, refresh-asks, terminate-asks}
-use Rattle.runs.specs.Orphans.WatchPassageKept.{passage-stays, closed-keeps, terminating-keeps, refreshing-keeps}
-use Rattle.runs.specs.Orphans.WatchVisitKept.{visit-stays, where-there, asked-keeps, told-keeps}
+use Rattle.runs.specs.Orphans.WatchMailKept.{mail-after-same, mail-after-seen, mail-after-ask, mail-after-tell, refresh-asks, terminate-asks}
+use Rattle.runs.specs.Orphans.WatchPassageKept.{passage-after-same, passage-after-closed, passage-after-terminating, passage-after-refreshing}
+use Rattle.runs.specs.Orphans.WatchVisitKept.{visit-after-same, where-there, visit-after-asked, visit-after-told}
 use Rattle.runs.specs.Orphans.WatchStore.{knownHead, Keeps, Guards}
 
 -- ---- refresh and terminate: a round opens, and its phase 1 part is done at home
 
-pub refresh-keeps :
+pub watch-after-refresh :
     (latest : ℕ) (t : Tables) (at : Places) (h q r : ℕ) (bad : Bool)
     → Fine (openChecks h bad (not (isActive (seenOf t at .passage .status))) (seenOf t at))
     → Keeps latest t at (openDone h (Kind.Refresh q r) bad (not (isActive (seenOf t at .passage .status))) (seenOf t at) .left)
-refresh-keeps latest t at h q r bad fine =
+watch-after-refresh latest t at h q r bad fine =
     record {
       clock = omega arith;
       mail = inl refl;
       own =
           λ e.
           record {
-            passage = refreshing-keeps
+            passage = passage-after-refreshing
                 latest
                 (viewOf t (at .slot))
                 e
@@ -42,7 +42,7 @@ refresh-keeps latest t at h q r bad fine =
                 (openedVisit (Kind.Refresh q r) (nextClock (siteAt t (at .site))) (seenOf t at))
                 active;
             visit =
-                asked-keeps
+                visit-after-asked
                 latest
                 (viewOf t (at .slot))
                 (at .site)
@@ -50,30 +50,30 @@ refresh-keeps latest t at h q r bad fine =
                 (nextClock (siteAt t (at .site)))
                 (Asked.Refresh r)
                 (refresh-asks latest (viewOf t (at .slot)) (passageAt t (at .slot) .round .number + 1) r active);
-            mail = mail-keeps latest (viewOf t (at .slot)) (at .message);
+            mail = mail-after-same latest (viewOf t (at .slot)) (at .message);
           };
     }
   where
     active : isActive (passageAt t (at .slot) .status) ≡ true
     active = not-false _ (fine .state)
 
-pub terminate-keeps :
+pub watch-after-terminate :
     (latest : ℕ) (t : Tables) (at : Places) (h : ℕ) (bad wrong : Bool)
     → Keeps latest t at (openDone h Kind.Terminate bad wrong (seenOf t at) .left)
-terminate-keeps latest t at h bad wrong =
+watch-after-terminate latest t at h bad wrong =
     record {
       clock = omega arith;
       mail = inl refl;
       own =
           λ e.
           record {
-            passage = terminating-keeps
+            passage = passage-after-terminating
                 latest
                 (viewOf t (at .slot))
                 e
                 (openedVisit Kind.Terminate (nextClock (siteAt t (at .site))) (seenOf t at));
             visit =
-                asked-keeps
+                visit-after-asked
                 latest
                 (viewOf t (at .slot))
                 (at .site)
@@ -81,14 +81,14 @@ terminate-keeps latest t at h bad wrong =
                 (nextClock (siteAt t (at .site)))
                 Asked.Terminate
                 (terminate-asks latest (viewOf t (at .slot)) (passageAt t (at .slot) .round .number + 1));
-            mail = mail-keeps latest (viewOf t (at .slot)) (at .message);
+            mail = mail-after-same latest (viewOf t (at .slot)) (at .message);
           };
     }
 
 -- ---- prepare: something else is known after it
 
 -- the passage was running, so it was not watched; from now on a commit round has begun
-pub prepare-guards :
+pub watch-after-prepare :
     (latest site : ℕ) (t : Tables) (at : Places) (g : Known) (h : ℕ) (bad : Bool) → slotOf h ≡ at .slot
     → Fine (openChecks h bad (not (isRunning (seenOf t at .passage .status))) (seenOf t at))
     → Guards
@@ -99,7 +99,7 @@ pub prepare-guards :
     g
     (λ p. knownHead p t (Step.Prepare h) g)
     (openDone h Kind.Prepare bad (not (isRunning (seenOf t at .passage .status))) (seenOf t at) .left)
-prepare-guards latest site t at g h bad own fine =
+watch-after-prepare latest site t at g h bad own fine =
     record {
       clock = omega arith;
       mail = inl refl;
@@ -137,29 +137,29 @@ one-open p y e = false≢true (sym (ap isPhaseOne e) ∙ y)
 two-open : (p : Phase) → isPhaseTwo p ≡ true → p ≢ Phase.None
 two-open p y e = false≢true (sym (ap isPhaseTwo e) ∙ y)
 
-sent-out-keeps :
+watch-after-sent-out :
     (latest : ℕ) (t : Tables) (at : Places) (body : Body) (h site clock : ℕ) → siteAt t (at .site) .clock ≤ clock
     → isEmpty (messageAt t (at .message) .body) ≡ true → slotOf h ≡ at .slot
     → (Ending (passageAt t (at .slot)) → BodyKeeps latest (viewOf t (at .slot)) body)
     → Keeps latest t at (sentOut body h site clock (seenOf t at))
-sent-out-keeps latest t at body h site clock i empty own law =
+watch-after-sent-out latest t at body h site clock i empty own law =
     record {
       clock = i;
       mail = inr (inl empty, inr own);
       own =
           λ e.
           record {
-            passage = passage-stays latest (viewOf t (at .slot)) e;
-            visit = visit-stays latest (viewOf t (at .slot)) (at .site);
-            mail = seen-keeps latest (viewOf t (at .slot)) (at .slot) (plainMessage body (passageAt t (at .slot) .home) site h clock) (law e);
+            passage = passage-after-same latest (viewOf t (at .slot)) e;
+            visit = visit-after-same latest (viewOf t (at .slot)) (at .site);
+            mail = mail-after-seen latest (viewOf t (at .slot)) (at .slot) (plainMessage body (passageAt t (at .slot) .home) site h clock) (law e);
           };
     }
 
-pub asked-out-keeps :
+pub watch-after-asked-out :
     (latest : ℕ) (t : Tables) (at : Places) (h site place : ℕ) → slotOf h ≡ at .slot → Fine (askChecks h site (seenOf t at))
     → Keeps latest t at (askDone h site place (seenOf t at) .left)
-asked-out-keeps latest t at h site place own fine =
-    sent-out-keeps
+watch-after-asked-out latest t at h site place own fine =
+    watch-after-sent-out
     latest
     t
     at
@@ -171,17 +171,17 @@ asked-out-keeps latest t at h site place own fine =
     (not-false _ (fine .room))
     own
     (λ e.
-    ask-keeps
+    mail-after-ask
     latest
     (viewOf t (at .slot))
     e
     (one-open _ (not-false _ (or-left (not (isPhaseOne (passageAt t (at .slot) .round .phase))) _ (fine .state)))))
 
-pub told-out-keeps :
+pub watch-after-told-out :
     (latest : ℕ) (t : Tables) (at : Places) (h site place : ℕ) → slotOf h ≡ at .slot → Fine (tellChecks h site (seenOf t at))
     → Keeps latest t at (tellDone h site place (seenOf t at) .left)
-told-out-keeps latest t at h site place own fine =
-    sent-out-keeps
+watch-after-told-out latest t at h site place own fine =
+    watch-after-sent-out
     latest
     t
     at
@@ -193,7 +193,7 @@ told-out-keeps latest t at h site place own fine =
     (not-false _ (fine .room))
     own
     (λ e.
-    tell-keeps
+    mail-after-tell
     latest
     (viewOf t (at .slot))
     e
@@ -208,20 +208,20 @@ told-out-keeps latest t at h site place own fine =
 
 -- ---- close: the passage, and the home visit's phase 2 part where it is there
 
-pub close-keeps :
+pub watch-after-close :
     (latest : ℕ) (t : Tables) (at : Places) (h : ℕ) → Fine (closeChecks h (seenOf t at))
     → Keeps latest t at (closeDone h (seenOf t at) .left)
-close-keeps latest t at h fine =
+watch-after-close latest t at h fine =
     record {
       clock = omega arith;
       mail = inl refl;
       own =
           λ e.
           let body : BodyKeeps latest (viewOf t (at .slot)) (tellBody (passageAt t (at .slot) .round)) =
-          tell-keeps latest (viewOf t (at .slot)) e one in
+          mail-after-tell latest (viewOf t (at .slot)) e one in
           record {
             passage =
-                closed-keeps
+                passage-after-closed
                 latest
                 (viewOf t (at .slot))
                 e
@@ -235,14 +235,14 @@ close-keeps latest t at h fine =
                 (viewOf t (at .slot))
                 (at .site)
                 _
-                (told-keeps
+                (visit-after-told
                 latest
                 (viewOf t (at .slot))
                 (at .site)
                 (passageAt t (at .slot) .round .number)
                 (roundTold (passageAt t (at .slot) .round))
                 body);
-            mail = mail-keeps latest (viewOf t (at .slot)) (at .message);
+            mail = mail-after-same latest (viewOf t (at .slot)) (at .message);
           };
     }
   where

@@ -14,34 +14,34 @@ use Rattle.rules.specs.Machine.{seenOf, slotPlaces, tripPlaces, turnSeen}
 use Rattle.runs.specs.Types.{Site, Tables, Places}
 use Rattle.runs.specs.Times.View.{viewOf}
 use Rattle.runs.specs.Orphans.WatchKept.{VisitKeeps}
-use Rattle.runs.specs.Orphans.WatchMailKept.{mail-keeps}
-use Rattle.runs.specs.Orphans.WatchPassageKept.{passage-stays, aborts-keeps}
-use Rattle.runs.specs.Orphans.WatchVisitKept.{visit-stays, where-there, visit-goes, quieted-keeps}
+use Rattle.runs.specs.Orphans.WatchMailKept.{mail-after-same}
+use Rattle.runs.specs.Orphans.WatchPassageKept.{passage-after-same, passage-after-aborted}
+use Rattle.runs.specs.Orphans.WatchVisitKept.{visit-after-same, where-there, visit-goes, visit-after-quieted}
 use Rattle.runs.specs.Orphans.WatchStore.{Keeps}
 
 -- only the site changes, and its clock does not go back
-pub site-keeps :
+pub watch-after-site :
     (latest : ℕ) (t : Tables) (at : Places) (site : Site) → siteAt t (at .site) .clock ≤ site .clock
     → Keeps latest t at (leftSite (seenOf t at) site)
-site-keeps latest t at site i =
+watch-after-site latest t at site i =
     record {
       clock = i;
       mail = inl refl;
       own =
           λ e.
           record {
-            passage = passage-stays latest (viewOf t (at .slot)) e;
-            visit = visit-stays latest (viewOf t (at .slot)) (at .site);
-            mail = mail-keeps latest (viewOf t (at .slot)) (at .message);
+            passage = passage-after-same latest (viewOf t (at .slot)) e;
+            visit = visit-after-same latest (viewOf t (at .slot)) (at .site);
+            mail = mail-after-same latest (viewOf t (at .slot)) (at .message);
           };
     }
 
 -- one slot of a sweep: the visit goes, and an active passage at home is aborted; or all stays
-swept-keeps :
+watch-after-swept :
     (latest : ℕ) (t : Tables) (site slot : ℕ)
     → Keeps latest t (slotPlaces site slot) (sweptSlot site slot (seenOf t (slotPlaces site slot)))
 unfolding sweptSlot
-swept-keeps latest t site slot =
+watch-after-swept latest t site slot =
     cond-keeps
     (Keeps latest t (slotPlaces site slot))
     (isSwept (seenOf t (slotPlaces site slot)))
@@ -54,30 +54,30 @@ swept-keeps latest t site slot =
           λ e.
           record {
             passage =
-                aborts-keeps
+                passage-after-aborted
                 latest
                 (viewOf t slot)
                 (isActive (passageAt t slot .status) && eqb (passageAt t slot .home) site)
                 e;
             visit = visit-goes latest (viewOf t slot) (site % 8);
-            mail = mail-keeps latest (viewOf t slot) 0;
+            mail = mail-after-same latest (viewOf t slot) 0;
           };
     })
-    (site-keeps latest t (slotPlaces site slot) (siteAt t (site % 8)) (omega arith))
+    (watch-after-site latest t (slotPlaces site slot) (siteAt t (site % 8)) (omega arith))
 
 -- one slot of a crash
-crashed-keeps :
+watch-after-crashed :
     (latest : ℕ) (t : Tables) (site slot : ℕ)
     → Keeps latest t (slotPlaces site slot) (crashedSlot site slot (seenOf t (slotPlaces site slot)))
 unfolding crashedSlot
-crashed-keeps latest t site slot =
+watch-after-crashed latest t site slot =
     record {
       clock = omega arith;
       mail = inl refl;
       own =
           λ e.
           record {
-            passage = aborts-keeps latest (viewOf t slot) (losesHome site (passageAt t slot)) e;
+            passage = passage-after-aborted latest (viewOf t slot) (losesHome site (passageAt t slot)) e;
             visit =
                 where-there
                 latest
@@ -89,15 +89,15 @@ crashed-keeps latest t site slot =
                 (losesHome site (passageAt t slot) || not (visitAt t (site % 8) slot .prepared))
                 _
                 _
-                (quieted-keeps latest (viewOf t slot) (site % 8) (siteAt t (site % 8) .clock) true)
-                (visit-stays latest (viewOf t slot) (site % 8)));
-            mail = mail-keeps latest (viewOf t slot) 0;
+                (visit-after-quieted latest (viewOf t slot) (site % 8) (siteAt t (site % 8) .clock) true)
+                (visit-after-same latest (viewOf t slot) (site % 8)));
+            mail = mail-after-same latest (viewOf t slot) 0;
           };
     }
 
-pub turned-keeps :
+pub watch-after-turned :
     (latest : ℕ) (t : Tables) (trip : Trip) (slot : ℕ)
     → Keeps latest t (tripPlaces trip slot) (turnSeen trip slot (seenOf t (tripPlaces trip slot)))
-turned-keeps latest t Trip.Nowhere slot = site-keeps latest t (tripPlaces Trip.Nowhere slot) (siteAt t 0) (omega arith)
-turned-keeps latest t (Trip.Sweep site) slot = swept-keeps latest t site slot
-turned-keeps latest t (Trip.Crash site) slot = crashed-keeps latest t site slot
+watch-after-turned latest t Trip.Nowhere slot = watch-after-site latest t (tripPlaces Trip.Nowhere slot) (siteAt t 0) (omega arith)
+watch-after-turned latest t (Trip.Sweep site) slot = watch-after-swept latest t site slot
+watch-after-turned latest t (Trip.Crash site) slot = watch-after-crashed latest t site slot

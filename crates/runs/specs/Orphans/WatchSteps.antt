@@ -22,16 +22,16 @@ use Rattle.rules.specs.Runs.{Started, runOf}
 use Rattle.runs.specs.Types.{Kind, Status, Passage, Body, Tables, Step, Places, Seen, Decision, Outcome}
 use Rattle.runs.specs.Walk.Plain.{repeat-has}
 use Rattle.runs.specs.Times.View.{mailOf, viewOf}
-use Rattle.runs.specs.Walk.Steps.{ghostRun, run-keeps}
+use Rattle.runs.specs.Walk.Steps.{ghostRun, good-after-run}
 use Rattle.runs.specs.Walk.Sound.{Sound, sound-head, sound-turn}
 use Rattle.runs.specs.Times.Ledgers.{placesAt, seenAt}
 use Rattle.runs.specs.Orphans.Watch.{Known, Watch}
 use Rattle.runs.specs.Orphans.WatchKept.{Follows, follows-same, watch-unwatched, plain-free, aborted-free}
-use Rattle.runs.specs.Orphans.WatchStore.{knownHead, knownTurn, Keeps, Guards, keeps-guards, guarded}
-use Rattle.runs.specs.Orphans.WatchStations.{site-keeps, turned-keeps}
-use Rattle.runs.specs.Orphans.WatchLife.{begin-guards, abort-keeps, retire-guards}
-use Rattle.runs.specs.Orphans.WatchRounds.{refresh-keeps, terminate-keeps, prepare-guards, asked-out-keeps, told-out-keeps, close-keeps}
-use Rattle.runs.specs.Orphans.WatchCalls.{invoked-keeps, delivered-keeps, lost-keeps}
+use Rattle.runs.specs.Orphans.WatchStore.{knownHead, knownTurn, Keeps, Guards, guards-of-kept, guarded}
+use Rattle.runs.specs.Orphans.WatchStations.{watch-after-site, watch-after-turned}
+use Rattle.runs.specs.Orphans.WatchLife.{watch-after-begin, watch-after-abort, watch-after-retire}
+use Rattle.runs.specs.Orphans.WatchRounds.{watch-after-refresh, watch-after-terminate, watch-after-prepare, watch-after-asked-out, watch-after-told-out, watch-after-close}
+use Rattle.runs.specs.Orphans.WatchCalls.{watch-after-invoked, watch-after-delivered, watch-after-lost}
 
 -- ---- every accepted step
 
@@ -43,22 +43,22 @@ module _ (latest site : ℕ) (t : Tables) (g : Known) where
   still-follows : Follows g stillKnown
   still-follows = record { commit = λ y. y; watched = λ y. and-left (g .watched) true y; cleared = λ y. y }
 
-  kept-guards : (at : Places) (left : Seen) → Keeps latest t at left → Guards latest site t at g (λ p. stillKnown) left
-  kept-guards at left x = keeps-guards latest site t at g (λ p. stillKnown) left (λ p. still-follows) x
+  guards-after-kept : (at : Places) (left : Seen) → Keeps latest t at left → Guards latest site t at g (λ p. stillKnown) left
+  guards-after-kept at left x = guards-of-kept latest site t at g (λ p. stillKnown) left (λ p. still-follows) x
 
   -- an accepted decision leaves what it decided
-  settled-keeps :
+  watch-after-settled :
       (at : Places) (d : Decision) → isAccepted (d .answer) ≡ true → Keeps latest t at (d .left)
       → Guards latest site t at g (λ p. stillKnown) (settleOf d (seenOf t at) .left)
-  settled-keeps at d e x = rw e (kept-guards at (d .left) x)
+  watch-after-settled at d e x = rw e (guards-after-kept at (d .left) x)
 
-  settled-guards :
+  guards-after-settled :
       (at : Places) (next : ℕ → Known) (d : Decision) → isAccepted (d .answer) ≡ true
       → Guards latest site t at g next (d .left)
       → Guards latest site t at g next (settleOf d (seenOf t at) .left)
-  settled-guards at next d e x = rw e x
+  guards-after-settled at next d e x = rw e x
 
-  decided-guards :
+  watch-after-decided :
       (step : Step) → Sound t
       → isAccepted
       (decideOf step (foundOf t (placesAt t step)) (seenAt t step) .answer)
@@ -72,38 +72,38 @@ module _ (latest site : ℕ) (t : Tables) (g : Known) where
       (λ p. knownHead p t step g)
       (decideOf step (foundOf t (placesAt t step)) (seenAt t step) .left)
   unfolding placesOf decideOf tickOf sweepOf crashOf recoverOf beginOf abortOf retireOf refreshOf terminateOf prepareOf openOf askOf closeOf tellOf invokeOf dropOf
-  decided-guards (Step.Tick a n) z e =
-      settled-keeps (placesAt t (Step.Tick a n)) (tickDone a n (seenAt t (Step.Tick a n))) e (site-keeps latest t (placesAt t (Step.Tick a n)) _ (omega arith))
-  decided-guards (Step.Begin home slot q r) z e =
-      settled-guards (placesAt t (Step.Begin home slot q r)) _ (beginDone home slot q r (seenAt t (Step.Begin home slot q r))) e (begin-guards latest site t (placesAt t (Step.Begin home slot q r)) g home slot q r refl (accepted-fine _ _ e))
-  decided-guards (Step.Invoke h a write object value) z e =
-      settled-keeps (placesAt t (Step.Invoke h a write object value)) (invokeDone h a write object value (placesAt t (Step.Invoke h a write object value) .message) (seenAt t (Step.Invoke h a write object value))) e (invoked-keeps latest t (placesAt t (Step.Invoke h a write object value)) h a write object value (placesAt t (Step.Invoke h a write object value) .message) refl (accepted-fine _ _ e))
-  decided-guards (Step.Refresh h q r) z e =
-      settled-keeps (placesAt t (Step.Refresh h q r)) (openDone h (Kind.Refresh q r) (badHandle h || badTimes q r) (not (isActive (seenAt t (Step.Refresh h q r) .passage .status))) (seenAt t (Step.Refresh h q r))) e (refresh-keeps latest t (placesAt t (Step.Refresh h q r)) h q r _ (accepted-fine _ _ e))
-  decided-guards (Step.Terminate h) z e =
-      settled-keeps (placesAt t (Step.Terminate h)) (openDone h Kind.Terminate (badHandle h) (not (isAborted (seenAt t (Step.Terminate h) .passage .status))) (seenAt t (Step.Terminate h))) e (terminate-keeps latest t (placesAt t (Step.Terminate h)) h (badHandle h) (not (isAborted (seenAt t (Step.Terminate h) .passage .status))))
-  decided-guards (Step.Prepare h) z e =
-      settled-guards (placesAt t (Step.Prepare h)) _ (openDone h Kind.Prepare (badHandle h) (not (isRunning (seenAt t (Step.Prepare h) .passage .status))) (seenAt t (Step.Prepare h))) e (prepare-guards latest site t (placesAt t (Step.Prepare h)) g h _ refl (accepted-fine _ _ e))
-  decided-guards (Step.Ask h a) z e =
-      settled-keeps (placesAt t (Step.Ask h a)) (askDone h a (placesAt t (Step.Ask h a) .message) (seenAt t (Step.Ask h a))) e (asked-out-keeps latest t (placesAt t (Step.Ask h a)) h a (placesAt t (Step.Ask h a) .message) refl (accepted-fine _ _ e))
-  decided-guards (Step.Close h) z e =
-      settled-keeps (placesAt t (Step.Close h)) (closeDone h (seenAt t (Step.Close h))) e (close-keeps latest t (placesAt t (Step.Close h)) h (accepted-fine _ _ e))
-  decided-guards (Step.Tell h a) z e =
-      settled-keeps (placesAt t (Step.Tell h a)) (tellDone h a (placesAt t (Step.Tell h a) .message) (seenAt t (Step.Tell h a))) e (told-out-keeps latest t (placesAt t (Step.Tell h a)) h a (placesAt t (Step.Tell h a) .message) refl (accepted-fine _ _ e))
-  decided-guards (Step.Abort h) z e =
-      settled-keeps (placesAt t (Step.Abort h)) (abortDone h (seenAt t (Step.Abort h))) e (abort-keeps latest t (placesAt t (Step.Abort h)) h)
-  decided-guards (Step.Deliver m) z e =
-      kept-guards (placesAt t (Step.Deliver m)) _ (delivered-keeps latest t (placesAt t (Step.Deliver m)) m refl (seenAt t (Step.Deliver m) .message .body) refl e)
-  decided-guards (Step.Drop m) z e =
-      settled-keeps (placesAt t (Step.Drop m)) (dropDone m (seenAt t (Step.Drop m))) e (lost-keeps latest t (placesAt t (Step.Drop m)) refl)
-  decided-guards (Step.Sweep a) z e =
-      settled-keeps (placesAt t (Step.Sweep a)) (sweepDone a (seenAt t (Step.Sweep a))) e (site-keeps latest t (placesAt t (Step.Sweep a)) _ (omega arith))
-  decided-guards (Step.Crash a) z e =
-      settled-keeps (placesAt t (Step.Crash a)) (crashDone a (seenAt t (Step.Crash a))) e (site-keeps latest t (placesAt t (Step.Crash a)) _ (omega arith))
-  decided-guards (Step.Recover a) z e =
-      settled-keeps (placesAt t (Step.Recover a)) (recoverDone a (seenAt t (Step.Recover a))) e (site-keeps latest t (placesAt t (Step.Recover a)) _ (omega arith))
-  decided-guards (Step.Retire h) z e =
-      settled-guards (placesAt t (Step.Retire h)) _ (retireDone h (remains t (placesAt t (Step.Retire h) .slot)) (seenAt t (Step.Retire h))) e (retire-guards latest site t (placesAt t (Step.Retire h)) g h (z .sized) refl (accepted-fine _ _ e))
+  watch-after-decided (Step.Tick a n) z e =
+      watch-after-settled (placesAt t (Step.Tick a n)) (tickDone a n (seenAt t (Step.Tick a n))) e (watch-after-site latest t (placesAt t (Step.Tick a n)) _ (omega arith))
+  watch-after-decided (Step.Begin home slot q r) z e =
+      guards-after-settled (placesAt t (Step.Begin home slot q r)) _ (beginDone home slot q r (seenAt t (Step.Begin home slot q r))) e (watch-after-begin latest site t (placesAt t (Step.Begin home slot q r)) g home slot q r refl (accepted-fine _ _ e))
+  watch-after-decided (Step.Invoke h a write object value) z e =
+      watch-after-settled (placesAt t (Step.Invoke h a write object value)) (invokeDone h a write object value (placesAt t (Step.Invoke h a write object value) .message) (seenAt t (Step.Invoke h a write object value))) e (watch-after-invoked latest t (placesAt t (Step.Invoke h a write object value)) h a write object value (placesAt t (Step.Invoke h a write object value) .message) refl (accepted-fine _ _ e))
+  watch-after-decided (Step.Refresh h q r) z e =
+      watch-after-settled (placesAt t (Step.Refresh h q r)) (openDone h (Kind.Refresh q r) (badHandle h || badTimes q r) (not (isActive (seenAt t (Step.Refresh h q r) .passage .status))) (seenAt t (Step.Refresh h q r))) e (watch-after-refresh latest t (placesAt t (Step.Refresh h q r)) h q r _ (accepted-fine _ _ e))
+  watch-after-decided (Step.Terminate h) z e =
+      watch-after-settled (placesAt t (Step.Terminate h)) (openDone h Kind.Terminate (badHandle h) (not (isAborted (seenAt t (Step.Terminate h) .passage .status))) (seenAt t (Step.Terminate h))) e (watch-after-terminate latest t (placesAt t (Step.Terminate h)) h (badHandle h) (not (isAborted (seenAt t (Step.Terminate h) .passage .status))))
+  watch-after-decided (Step.Prepare h) z e =
+      guards-after-settled (placesAt t (Step.Prepare h)) _ (openDone h Kind.Prepare (badHandle h) (not (isRunning (seenAt t (Step.Prepare h) .passage .status))) (seenAt t (Step.Prepare h))) e (watch-after-prepare latest site t (placesAt t (Step.Prepare h)) g h _ refl (accepted-fine _ _ e))
+  watch-after-decided (Step.Ask h a) z e =
+      watch-after-settled (placesAt t (Step.Ask h a)) (askDone h a (placesAt t (Step.Ask h a) .message) (seenAt t (Step.Ask h a))) e (watch-after-asked-out latest t (placesAt t (Step.Ask h a)) h a (placesAt t (Step.Ask h a) .message) refl (accepted-fine _ _ e))
+  watch-after-decided (Step.Close h) z e =
+      watch-after-settled (placesAt t (Step.Close h)) (closeDone h (seenAt t (Step.Close h))) e (watch-after-close latest t (placesAt t (Step.Close h)) h (accepted-fine _ _ e))
+  watch-after-decided (Step.Tell h a) z e =
+      watch-after-settled (placesAt t (Step.Tell h a)) (tellDone h a (placesAt t (Step.Tell h a) .message) (seenAt t (Step.Tell h a))) e (watch-after-told-out latest t (placesAt t (Step.Tell h a)) h a (placesAt t (Step.Tell h a) .message) refl (accepted-fine _ _ e))
+  watch-after-decided (Step.Abort h) z e =
+      watch-after-settled (placesAt t (Step.Abort h)) (abortDone h (seenAt t (Step.Abort h))) e (watch-after-abort latest t (placesAt t (Step.Abort h)) h)
+  watch-after-decided (Step.Deliver m) z e =
+      guards-after-kept (placesAt t (Step.Deliver m)) _ (watch-after-delivered latest t (placesAt t (Step.Deliver m)) m refl (seenAt t (Step.Deliver m) .message .body) refl e)
+  watch-after-decided (Step.Drop m) z e =
+      watch-after-settled (placesAt t (Step.Drop m)) (dropDone m (seenAt t (Step.Drop m))) e (watch-after-lost latest t (placesAt t (Step.Drop m)) refl)
+  watch-after-decided (Step.Sweep a) z e =
+      watch-after-settled (placesAt t (Step.Sweep a)) (sweepDone a (seenAt t (Step.Sweep a))) e (watch-after-site latest t (placesAt t (Step.Sweep a)) _ (omega arith))
+  watch-after-decided (Step.Crash a) z e =
+      watch-after-settled (placesAt t (Step.Crash a)) (crashDone a (seenAt t (Step.Crash a))) e (watch-after-site latest t (placesAt t (Step.Crash a)) _ (omega arith))
+  watch-after-decided (Step.Recover a) z e =
+      watch-after-settled (placesAt t (Step.Recover a)) (recoverDone a (seenAt t (Step.Recover a))) e (watch-after-site latest t (placesAt t (Step.Recover a)) _ (omega arith))
+  watch-after-decided (Step.Retire h) z e =
+      guards-after-settled (placesAt t (Step.Retire h)) _ (retireDone h (remains t (placesAt t (Step.Retire h) .slot)) (seenAt t (Step.Retire h))) e (watch-after-retire latest site t (placesAt t (Step.Retire h)) g h (z .sized) refl (accepted-fine _ _ e))
 
 -- ---- so the invariant is kept, for any slot, any latest time and any site
 
@@ -124,7 +124,7 @@ module _ (latest site p : ℕ) (place : p < 16) where
       _
       (z .sized)
       (placed-places t (lookOf step))
-      (decided-guards latest site t g step z e)
+      (watch-after-decided latest site t g step z e)
       p
       place
       k
@@ -146,7 +146,7 @@ module _ (latest site p : ℕ) (place : p < 16) where
       _
       (z .sized)
       (placed-trip trip slot i)
-      (keeps-guards latest site (o .tables) (tripPlaces trip slot) g (λ q. g) _ (λ q. follows-same g) (turned-keeps latest (o .tables) trip slot))
+      (guards-of-kept latest site (o .tables) (tripPlaces trip slot) g (λ q. g) _ (λ q. follows-same g) (watch-after-turned latest (o .tables) trip slot))
       p
       place
       k)
@@ -155,7 +155,7 @@ module _ (latest site p : ℕ) (place : p < 16) where
       (t : Tables) (us : List Step) (g : Known) → Sound t → Watch latest site g (viewOf t p)
       → Sound (runOf t us) × Watch latest site (ghostRun (knownHead p) knownTurn t us g) (viewOf (runOf t us) p)
   watch-run t us g z k =
-      run-keeps
+      good-after-run
       (knownHead p)
       knownTurn
       (λ u h. Sound u × Watch latest site h (viewOf u p))

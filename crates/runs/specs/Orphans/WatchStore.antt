@@ -10,7 +10,7 @@ use Rattle.rules.specs.StoredLaws.{Sized, Placed}
 use Rattle.runs.specs.Types.{Passage, Visit, Body, Tables, Step, Places, Seen}
 use Rattle.runs.specs.Walk.Put.{same-or-other}
 use Rattle.runs.specs.Times.View.{View, mailOf, viewOf}
-use Rattle.runs.specs.Times.Store.{leftView, OwnChange, other-still, own-view, other-view}
+use Rattle.runs.specs.Times.Store.{leftView, OwnChange, mail-after-other, own-view, other-view}
 use Rattle.runs.specs.Orphans.Orphans.{commitAfter, retires}
 use Rattle.runs.specs.Orphans.Watch.{Known, Watch}
 use Rattle.runs.specs.Orphans.WatchKept.{Follows, watch-follows, Ending, BodyKeeps, VisitKeeps, PassageKeeps, watch-left, watch-moved}
@@ -59,10 +59,10 @@ pub record Guards (latest site : ℕ) (t : Tables) (at : Places) (g : Known) (ne
       (leftView (viewOf t (at .slot)) (at .site) (at .message) (left .passage) (left .visit) (left .site .clock) (mailOf (at .slot) (left .message)))
   pub other : (p : ℕ) → p ≢ at .slot → Follows g (next p)
 
-pub keeps-guards :
+pub guards-of-kept :
     (latest site : ℕ) (t : Tables) (at : Places) (g : Known) (next : ℕ → Known) (left : Seen)
     → ((p : ℕ) → Follows g (next p)) → Keeps latest t at left → Guards latest site t at g next left
-keeps-guards latest site t at g next left f x =
+guards-of-kept latest site t at g next left f x =
     record {
       clock = x .clock;
       mail = x .mail;
@@ -123,7 +123,7 @@ module _ (latest site : ℕ) (t : Tables) (at : Places) (g : Known) (next : ℕ 
       (left .site .clock)
       (mailOf p (left .message))
       (x .clock)
-      (other-still (at .slot) p (messageAt t (at .message)) (left .message) (x .mail) n)
+      (mail-after-other (at .slot) p (messageAt t (at .message)) (left .message) (x .mail) n)
       k))
 
   pub guarded :

@@ -13,13 +13,13 @@ use Rattle.runs.specs.Times.View.{View}
 use Rattle.runs.specs.Orphans.WatchKept.{BodyKeeps, VisitKeeps}
 
 module _ (latest : ℕ) (w : View) (a : ℕ) where
-  pub visit-stays : VisitKeeps latest w a (w .visit a)
-  visit-stays =
+  pub visit-after-same : VisitKeeps latest w a (w .visit a)
+  visit-after-same =
       record { plain = λ h. h .visits a; bounded = λ h b. b .visits a; cleared = λ f b e l. e }
 
   -- where it is there, else nothing is done
   pub where-there : (v : Visit) → VisitKeeps latest w a v → VisitKeeps latest w a (whereThere (w .visit a) v)
-  where-there v h = cond-keeps (VisitKeeps latest w a) (w .visit a .there) v (w .visit a) h visit-stays
+  where-there v h = cond-keeps (VisitKeeps latest w a) (w .visit a .there) v (w .visit a) h visit-after-same
 
   pub visit-goes : VisitKeeps latest w a noVisit
   visit-goes =
@@ -29,8 +29,8 @@ module _ (latest : ℕ) (w : View) (a : ℕ) where
         cleared = λ f b e l. refl;
       }
 
-  pub quieted-keeps : (c : ℕ) (dead : Bool) → VisitKeeps latest w a (quieted (w .visit a) c false dead)
-  quieted-keeps c dead =
+  pub visit-after-quieted : (c : ℕ) (dead : Bool) → VisitKeeps latest w a (quieted (w .visit a) c false dead)
+  visit-after-quieted c dead =
       record {
         plain = λ h e. refl;
         bounded =
@@ -40,14 +40,14 @@ module _ (latest : ℕ) (w : View) (a : ℕ) where
         cleared = λ f b e l. e;
       }
 
-  pub sent-keeps : (d : ℕ) → VisitKeeps latest w a (countSent (w .visit a) d)
-  sent-keeps d =
+  pub visit-after-sent : (d : ℕ) → VisitKeeps latest w a (countSent (w .visit a) d)
+  visit-after-sent d =
       record { plain = λ h. h .visits a; bounded = λ h b. b .visits a; cleared = λ f b e l. e }
 
-  pub asked-keeps :
+  pub visit-after-asked :
       (n c : ℕ) (asked : Asked) → BodyKeeps latest w (Body.PhaseOne n asked)
       → VisitKeeps latest w a (askedVisit asked n c (w .visit a))
-  asked-keeps n c (Asked.Refresh r) h =
+  visit-after-asked n c (Asked.Refresh r) h =
       record {
         plain = λ y. y .visits a;
         bounded =
@@ -57,7 +57,7 @@ module _ (latest : ℕ) (w : View) (a : ℕ) where
             (omega arith, omega arith);
         cleared = λ f b e l. e;
       }
-  asked-keeps n c Asked.Terminate h =
+  visit-after-asked n c Asked.Terminate h =
       record {
         plain = λ y e. refl;
         bounded =
@@ -66,17 +66,17 @@ module _ (latest : ℕ) (w : View) (a : ℕ) where
             (omega arith, omega arith);
         cleared = λ f b e l. e;
       }
-  asked-keeps n c Asked.Prepare h =
+  visit-after-asked n c Asked.Prepare h =
       record {
         plain = λ y. absurd (true≢false (h .plain y));
         bounded = λ y b. absurd (true≢false (h .plain y));
         cleared = λ f b e l. e;
       }
 
-  pub told-keeps :
+  pub visit-after-told :
       (n : ℕ) (told : Told) → BodyKeeps latest w (Body.PhaseTwo n told)
       → VisitKeeps latest w a (toldVisit told (w .visit a))
-  told-keeps n (Told.Refresh q) h =
+  visit-after-told n (Told.Refresh q) h =
       record {
         plain = λ y. y .visits a;
         bounded =
@@ -86,7 +86,7 @@ module _ (latest : ℕ) (w : View) (a : ℕ) where
             (omega arith, omega arith);
         cleared = λ f b e l. e;
       }
-  told-keeps n (Told.Terminate m) h =
+  visit-after-told n (Told.Terminate m) h =
       record {
         plain = λ y. y .visits a;
         bounded =
@@ -95,14 +95,14 @@ module _ (latest : ℕ) (w : View) (a : ℕ) where
             (omega arith, omega arith);
         cleared = λ f b e l. e;
       }
-  told-keeps n Told.Prepare h = visit-goes
+  visit-after-told n Told.Prepare h = visit-goes
 
   -- a call at a visit that is there, or that it makes: its quiesce time is above the clock, so above the latest
-  pub called-keeps :
+  pub visit-after-called :
       (c : ℕ) (call : Call) → w .clock a ≤ c → BodyKeeps latest w (Body.Call call)
       → c < calledVisit call (w .visit a) .quiesce
       → VisitKeeps latest w a (countReceived (calledVisit call (w .visit a)))
-  called-keeps c call i h = go (either (w .visit a .there))
+  visit-after-called c call i h = go (either (w .visit a .there))
     where
       made : Visit
       made = newVisit (call .quiesce) (call .release) (call .round)

@@ -30,7 +30,7 @@ use Rattle.runs.specs.Types.{Visit, Call, Told, Body, Tables, Step, Plac
 use Rattle.runs.specs.Walk.Put.{same-or-other}
 use Rattle.runs.specs.Walk.Steps.{run-on}
 use Rattle.runs.specs.Walk.Sound.{Sound, sound-run, sound-step, sound-step-has}
-use Rattle.runs.specs.Promises.Promised.{Promised, isWord, stored-has, promised-stays}
+use Rattle.runs.specs.Promises.Promised.{Promised, isWord, stored-has, promised-after-step}
 
 -- ---- what a decision leaves of the objects that it saw
 
@@ -42,14 +42,14 @@ record Fast (t : Tables) (at : Places) (left : Seen) : Type 0 where
       ⊎ ((q ≡ at .slot) × ((at .bank ≡ at .site) × (left .visit .there ≡ false)))
 
 module _ (t : Tables) (at : Places) where
-  same-fast : (left : Seen) → left .objects ≡ bankAt t (at .bank) → Fast t at left
-  same-fast left o = record { holds = λ i q l e. inl (rw o e) }
+  fast-after-same : (left : Seen) → left .objects ≡ bankAt t (at .bank) → Fast t at left
+  fast-after-same left o = record { holds = λ i q l e. inl (rw o e) }
 
-  settled-fast :
+  fast-after-settled :
       (cs : List Check) (v : ℕ) (left : Seen) → Fast t at left
       → Fast t at (settleOf (record { answer = firstOf cs v; left = left }) (seenOf t at) .left)
-  settled-fast cs v left f =
-      settled (Fast t at) cs v (seenOf t at) left (λ g. f) (same-fast (seenOf t at) refl)
+  fast-after-settled cs v left f =
+      settled (Fast t at) cs v (seenOf t at) left (λ g. f) (fast-after-same (seenOf t at) refl)
 
   -- the visit goes, and lets go of what it held at its site; who else holds an object there keeps it
   let-go-fast :
@@ -73,31 +73,31 @@ module _ (t : Tables) (at : Places) where
       }
 
   -- a phase 2 part
-  told-fast :
+  fast-after-told :
       (told : Told) (left : Seen) → left .visit ≡ toldVisit told (visitAt t (at .site) (at .slot))
       → left .objects ≡ toldObjects told (at .slot) (bankAt t (at .bank))
       → at .bank ≡ at .site
       → Fast t at left
-  told-fast (Told.Refresh q) left v o b = same-fast left o
-  told-fast (Told.Terminate m) left v o b = same-fast left o
-  told-fast Told.Prepare left v o b = let-go-fast (freed (at .slot)) left (freed-lets-go (at .slot)) o b (ap (λ (x : Visit). x .there) v)
+  fast-after-told (Told.Refresh q) left v o b = fast-after-same left o
+  fast-after-told (Told.Terminate m) left v o b = fast-after-same left o
+  fast-after-told Told.Prepare left v o b = let-go-fast (freed (at .slot)) left (freed-lets-go (at .slot)) o b (ap (λ (x : Visit). x .there) v)
 
   -- a close does it where the home visit is there
-  closed-fast : (told : Told) (clock : ℕ) → at .bank ≡ at .site → Fast t at (closed told (at .slot) clock (seenOf t at))
-  closed-fast told clock b =
+  fast-after-closed : (told : Told) (clock : ℕ) → at .bank ≡ at .site → Fast t at (closed told (at .slot) clock (seenOf t at))
+  fast-after-closed told clock b =
       ⊎-elim
-      (λ e. told-fast told _ (rw e) (rw e) b)
-      (λ e. same-fast (closed told (at .slot) clock (seenOf t at)) (rw e))
+      (λ e. fast-after-told told _ (rw e) (rw e) b)
+      (λ e. fast-after-same (closed told (at .slot) clock (seenOf t at)) (rw e))
       (either (visitAt t (at .site) (at .slot) .there))
 
-  close-fast : (h : ℕ) → slotOf h ≡ at .slot → at .bank ≡ at .site → Fast t at (closeOf h (seenOf t at) .left)
+  fast-after-close : (h : ℕ) → slotOf h ≡ at .slot → at .bank ≡ at .site → Fast t at (closeOf h (seenOf t at) .left)
   unfolding closeOf
-  close-fast h s b =
-      settled-fast _ _ _ (rw s (closed-fast (roundTold (passageAt t (at .slot) .round)) (nextClock (siteAt t (at .site))) b))
+  fast-after-close h s b =
+      fast-after-settled _ _ _ (rw s (fast-after-closed (roundTold (passageAt t (at .slot) .round)) (nextClock (siteAt t (at .site))) b))
 
   -- a delivered call changes one object, and not who holds it
-  called-fast : (c : Call) (clock : ℕ) → Fast t at (called c clock (seenOf t at))
-  called-fast c clock =
+  fast-after-called : (c : Call) (clock : ℕ) → Fast t at (called c clock (seenOf t at))
+  fast-after-called c clock =
       record {
         holds =
             λ i q l e.
@@ -111,25 +111,25 @@ module _ (t : Tables) (at : Places) where
             (same-or-other i (c .object % 4));
       }
 
-  mail-fast :
+  fast-after-mail :
       (body : Body) (m : ℕ) → Mail body → at .slot ≡ mailSlot (seenOf t at) → at .bank ≡ bodyBank body (at .site)
       → Fast t at (deliverBodyOf body m (seenOf t at) .left)
   unfolding deliverBodyOf deliverCallOf deliverPhaseOneOf deliverPhaseTwoOf
-  mail-fast _ m (Mail.Calls c) s b = settled-fast _ _ _ (called-fast c _)
-  mail-fast _ m (Mail.Asks n asked) s b = settled-fast _ _ _ (same-fast _ refl)
-  mail-fast _ m (Mail.Tells n told) s b = settled-fast _ _ _ (told-fast told _ refl (rw s) b)
-  mail-fast _ m (Mail.Quiet body objects visit) s b = same-fast _ (objects m (seenOf t at))
+  fast-after-mail _ m (Mail.Calls c) s b = fast-after-settled _ _ _ (fast-after-called c _)
+  fast-after-mail _ m (Mail.Asks n asked) s b = fast-after-settled _ _ _ (fast-after-same _ refl)
+  fast-after-mail _ m (Mail.Tells n told) s b = fast-after-settled _ _ _ (fast-after-told told _ refl (rw s) b)
+  fast-after-mail _ m (Mail.Quiet body objects visit) s b = fast-after-same _ (objects m (seenOf t at))
 
   -- one slot of a sweep, and one of a crash
-  turned-fast : (trip : Trip) → at .bank ≡ at .site → Fast t at (turnSeen trip (at .slot) (seenOf t at))
+  fast-after-turned : (trip : Trip) → at .bank ≡ at .site → Fast t at (turnSeen trip (at .slot) (seenOf t at))
   unfolding sweptSlot crashedSlot
-  turned-fast Trip.Nowhere b = same-fast (seenOf t at) refl
-  turned-fast (Trip.Sweep site) b =
+  fast-after-turned Trip.Nowhere b = fast-after-same (seenOf t at) refl
+  fast-after-turned (Trip.Sweep site) b =
       ⊎-elim
       (λ e. rw e (let-go-fast (restored (at .slot)) _ (restored-lets-go (at .slot)) refl b refl))
-      (λ e. rw e (same-fast (seenOf t at) refl))
+      (λ e. rw e (fast-after-same (seenOf t at) refl))
       (either (isSwept (seenOf t at)))
-  turned-fast (Trip.Crash site) b = same-fast (crashedSlot site (at .slot) (seenOf t at)) refl
+  fast-after-turned (Trip.Crash site) b = fast-after-same (crashedSlot site (at .slot) (seenOf t at)) refl
 
 -- neither makes a visit
 turned-gone : (trip : Trip) (n : ℕ) (seen : Seen) → seen .visit .there ≡ false → turnSeen trip n seen .visit .there ≡ false
@@ -138,18 +138,18 @@ turned-gone Trip.Nowhere n seen e = e
 turned-gone (Trip.Sweep site) n seen e = cond-keeps (λ (x : Seen). x .visit .there ≡ false) (isSwept seen) _ seen refl e
 turned-gone (Trip.Crash site) n seen e = rw e
 
-seen-fast :
+fast-after-seen :
     (t : Tables) (step : Step) (found : Found) → Objects step
     → Fast t (placesOf t (lookOf step)) (decideOf step found (seenOf t (placesOf t (lookOf step))) .left)
 unfolding placesOf decideOf
-seen-fast t _ found (Objects.Closes h) = close-fast t _ h refl refl
-seen-fast t _ found (Objects.Delivers m) = mail-fast t _ _ m (mailOf _) refl refl
-seen-fast t _ found (Objects.Stay step c d stay) = same-fast t _ _ (stay found (seenOf t (placesOf t (lookOf step))))
+fast-after-seen t _ found (Objects.Closes h) = fast-after-close t _ h refl refl
+fast-after-seen t _ found (Objects.Delivers m) = fast-after-mail t _ _ m (mailOf _) refl refl
+fast-after-seen t _ found (Objects.Stay step c d stay) = fast-after-same t _ _ (stay found (seenOf t (placesOf t (lookOf step))))
 
-decided-fast :
+fast-after-decided :
     (t : Tables) (step : Step) (found : Found)
     → Fast t (placesOf t (lookOf step)) (decideOf step found (seenOf t (placesOf t (lookOf step))) .left)
-decided-fast t step found = seen-fast t step found (deedOf step .objects)
+fast-after-decided t step found = fast-after-seen t step found (deedOf step .objects)
 
 -- ---- steps, for one object and the slot that held it
 
@@ -158,10 +158,10 @@ module _ (k p : ℕ) (slot : p < 16) where
   abbrev pub HeldOrGone : Tables → Type 0
   HeldOrGone t = (isHolding t p k ≡ true) ⊎ (visitAt t (objectSite k) p .there ≡ false)
 
-  stored-fast :
+  fast-after-stored :
       (t : Tables) (at : Places) (left : Seen) → Sized t → Placed at → Fast t at left → isHolding t p k ≡ true
       → HeldOrGone (stored t at left)
-  stored-fast t at left z h f e =
+  fast-after-stored t at left z h f e =
       ⊎-elim
       (λ (b : objectSite k ≡ at .bank).
       let q : k / 4 ≡ at .bank = b in
@@ -173,15 +173,15 @@ module _ (k p : ℕ) (slot : p < 16) where
       (λ n. inl (ap (isHeldBy p) (object-after-stored-other t at left k n) ∙ e))
       (same-or-other (objectSite k) (at .bank))
 
-  turn-fast :
+  fast-after-turn :
       (trip : Trip) (n : ℕ) (o : Outcome) → n < 16 → Sound (o .tables) → HeldOrGone (o .tables)
       → HeldOrGone (turnOf trip n o .tables)
-  turn-fast trip n o l z h =
+  fast-after-turn trip n o l z h =
       let at : Places = tripPlaces trip n in
       rw
       (turn-stored trip n o)
       (⊎-elim
-      (λ e. stored-fast (o .tables) at _ (z .sized) (placed-trip trip n l) (turned-fast (o .tables) at trip refl) e)
+      (λ e. fast-after-stored (o .tables) at _ (z .sized) (placed-trip trip n l) (fast-after-turned (o .tables) at trip refl) e)
       (λ e.
       inr
       (stored-has (λ v. v .there ≡ false) (o .tables) at _ (z .sized) (placed-trip trip n l) (objectSite k) p slot
@@ -189,9 +189,9 @@ module _ (k p : ℕ) (slot : p < 16) where
       e))
       h)
 
-  head-fast : (t : Tables) (step : Step) → Sound t → isHolding t p k ≡ true → HeldOrGone (headOf t step .tables)
+  fast-after-head : (t : Tables) (step : Step) → Sound t → isHolding t p k ≡ true → HeldOrGone (headOf t step .tables)
   unfolding headOf
-  head-fast t step z e = stored-fast t (placesOf t (lookOf step)) _ (z .sized) (placed-places t (lookOf step)) (decided-fast t step _) e
+  fast-after-head t step z e = fast-after-stored t (placesOf t (lookOf step)) _ (z .sized) (placed-places t (lookOf step)) (fast-after-decided t step _) e
 
   -- in any tables: after every step the slot that held the object holds it, or has no visit at its site
   pub let-go-with-visit :
@@ -204,8 +204,8 @@ module _ (k p : ℕ) (slot : p < 16) where
       step
       z
       (λ n u. HeldOrGone u)
-      (turn-fast (lookOf step .trip))
-      (λ a. head-fast t step z e)
+      (fast-after-turn (lookOf step .trip))
+      (λ a. fast-after-head t step z e)
       HeldOrGone
       (inl e)
       (λ u y. y)
@@ -222,7 +222,7 @@ pub promised-object-held :
 promised-object-held {t₀} fresh ss step k p slot promised held f =
     ⊎-elim
     (λ e. e)
-    (λ gone. absurd (true≢false (sym (promised-stays (objectSite k) p slot (runOf t₀ ss) step (sound-run fresh ss) promised f) ∙ gone)))
+    (λ gone. absurd (true≢false (sym (promised-after-step (objectSite k) p slot (runOf t₀ ss) step (sound-run fresh ss) promised f) ∙ gone)))
     (let-go-with-visit k p slot (runOf t₀ ss) step (sound-run fresh ss) held)
 
 -- the visit of this slot is there after each of the steps

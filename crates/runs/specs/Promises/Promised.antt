@@ -66,10 +66,10 @@ firm-there (Trip.Sweep site) v e = e .0
 firm-there (Trip.Crash site) v e = e
 
 -- a decision leaves what was decided, or what was seen
-settled-firm :
+firm-after-settled :
     (trip : Trip) (cs : List Check) (v : ℕ) (seen left : Seen) → Firm trip (left .visit) → Firm trip (seen .visit)
     → Firm trip (settleOf (record { answer = firstOf cs v; left = left }) seen .left .visit)
-settled-firm trip cs v seen left e = settled (λ (x : Seen). Firm trip (x .visit)) cs v seen left (λ g. e)
+firm-after-settled trip cs v seen left e = settled (λ (x : Seen). Firm trip (x .visit)) cs v seen left (λ g. e)
 
 -- a rule that changes a visit and leaves it there
 changed-there : (v changed : Visit) → v .there ≡ true → changed .there ≡ true → whereThere v changed .there ≡ true
@@ -92,10 +92,10 @@ mail-there :
     → deliverBodyOf body m seen .left .visit .there ≡ true
 unfolding deliverBodyOf deliverCallOf deliverPhaseOneOf deliverPhaseTwoOf
 mail-there _ m seen (Mail.Calls c) e f =
-    settled-firm Trip.Nowhere _ _ seen _ (cond-keeps (λ (v : Visit). v .there ≡ true) (seen .visit .there) (seen .visit) _ e refl) e
+    firm-after-settled Trip.Nowhere _ _ seen _ (cond-keeps (λ (v : Visit). v .there ≡ true) (seen .visit .there) (seen .visit) _ e refl) e
 mail-there _ m seen (Mail.Asks n asked) e f =
-    settled-firm Trip.Nowhere _ _ seen _ (asked-says asked n _ (seen .visit) .there ∙ e) e
-mail-there _ m seen (Mail.Tells n told) e f = settled-firm Trip.Nowhere _ _ seen _ (told-there told (seen .visit) e f) e
+    firm-after-settled Trip.Nowhere _ _ seen _ (asked-says asked n _ (seen .visit) .there ∙ e) e
+mail-there _ m seen (Mail.Tells n told) e f = firm-after-settled Trip.Nowhere _ _ seen _ (told-there told (seen .visit) e f) e
 mail-there _ m seen (Mail.Quiet body objects visit) e f = ap (λ (v : Visit). v .there) (visit m seen) ∙ e
 
 -- at its own slot and site, a step that is no word
@@ -103,16 +103,16 @@ pub word-here : (a b : ℕ) (c : Bool) → (eqb a a && eqb b b && c) ≡ false �
 word-here a b c f = rw (eq-eqb a a refl, eq-eqb b b refl) at f
 
 -- what a step leaves there, and prepared where it goes on to sweep
-marked-firm :
+firm-after-marked :
     (t : Tables) (step : Step) (found : Found) → Marks step → Promised t (placesOf t (lookOf step) .site) (placesOf t (lookOf step) .slot)
     → isWord t (placesOf t (lookOf step) .site) (placesOf t (lookOf step) .slot) step ≡ false
     → Firm (lookOf step .trip) (decideOf step found (seenOf t (placesOf t (lookOf step))) .left .visit)
 unfolding placesOf decideOf beginOf abortOf terminateOf prepareOf openOf closeOf
-marked-firm t _ found (Marks.Begins home slot q r) k f = settled-firm Trip.Nowhere _ _ _ _ refl (k .there)
-marked-firm t _ found (Marks.Terminates h) k f = settled-firm Trip.Nowhere _ _ _ _ (k .there) (k .there)
-marked-firm t _ found (Marks.Prepares h) k f = settled-firm Trip.Nowhere _ _ _ _ (k .there) (k .there)
-marked-firm t _ found (Marks.Closes h) k f =
-    settled-firm
+firm-after-marked t _ found (Marks.Begins home slot q r) k f = firm-after-settled Trip.Nowhere _ _ _ _ refl (k .there)
+firm-after-marked t _ found (Marks.Terminates h) k f = firm-after-settled Trip.Nowhere _ _ _ _ (k .there) (k .there)
+firm-after-marked t _ found (Marks.Prepares h) k f = firm-after-settled Trip.Nowhere _ _ _ _ (k .there) (k .there)
+firm-after-marked t _ found (Marks.Closes h) k f =
+    firm-after-settled
     Trip.Nowhere
     _
     _
@@ -120,8 +120,8 @@ marked-firm t _ found (Marks.Closes h) k f =
     _
     (changed-there _ _ (k .there) (closed-there (passageAt t (slotOf h) .round .kind) _ _ (k .there) (word-here (slotOf h) (passageAt t (slotOf h) .home % 8) _ f)))
     (k .there)
-marked-firm t _ found (Marks.Aborts h) k f = settled-firm Trip.Nowhere _ _ _ _ (changed-there _ _ (k .there) (k .there)) (k .there)
-marked-firm t _ found (Marks.Delivers m) k f =
+firm-after-marked t _ found (Marks.Aborts h) k f = firm-after-settled Trip.Nowhere _ _ _ _ (changed-there _ _ (k .there) (k .there)) (k .there)
+firm-after-marked t _ found (Marks.Delivers m) k f =
     mail-there
     (messageAt t (m % 32) .body)
     m
@@ -129,15 +129,15 @@ marked-firm t _ found (Marks.Delivers m) k f =
     (mailOf (messageAt t (m % 32) .body))
     (k .there)
     (word-here (slotOf (messageAt t (m % 32) .handle)) (messageAt t (m % 32) .destination % 8) _ f)
-marked-firm t _ found (Marks.Stay step there prepared) k f =
+firm-after-marked t _ found (Marks.Stay step there prepared) k f =
     let seen = seenOf t (placesOf t (lookOf step)) in
     firm (lookOf step .trip) (decideOf step found seen .left .visit) (there found seen ∙ k .there) (prepared found seen ∙ k .prepared)
 
-decided-firm :
+firm-after-decided :
     (t : Tables) (step : Step) (found : Found) → Promised t (placesOf t (lookOf step) .site) (placesOf t (lookOf step) .slot)
     → isWord t (placesOf t (lookOf step) .site) (placesOf t (lookOf step) .slot) step ≡ false
     → Firm (lookOf step .trip) (decideOf step found (seenOf t (placesOf t (lookOf step))) .left .visit)
-decided-firm t step found = marked-firm t step found (deedOf step .marks)
+firm-after-decided t step found = firm-after-marked t step found (deedOf step .marks)
 
 -- ---- what one slot of a sweep or of a crash leaves of its visit
 
@@ -151,11 +151,11 @@ prepared-not-swept site n seen e = rw (unswept (seen .visit .there))
     unswept false = refl
 
 -- a crash leaves every visit there; what is kept on the way is kept by each slot
-turned-firm : (trip : Trip) (n : ℕ) (seen : Seen) → Firm trip (seen .visit) → Firm trip (turnSeen trip n seen .visit)
+firm-after-turned : (trip : Trip) (n : ℕ) (seen : Seen) → Firm trip (seen .visit) → Firm trip (turnSeen trip n seen .visit)
 unfolding crashedSlot
-turned-firm Trip.Nowhere n seen k = k
-turned-firm (Trip.Sweep site) n seen k = rw (prepared-not-swept site n seen (k .1)) k
-turned-firm (Trip.Crash site) n seen k =
+firm-after-turned Trip.Nowhere n seen k = k
+firm-after-turned (Trip.Sweep site) n seen k = rw (prepared-not-swept site n seen (k .1)) k
+firm-after-turned (Trip.Crash site) n seen k =
     changed-there
     (seen .visit)
     _
@@ -180,11 +180,11 @@ stored-has P t at left z h s p l own other = place (same-or-other s (at .site)) 
         rw (visit-after-stored-other t at left s p (λ y. b (visit-place-same s p (at .site) (at .slot) l (h .slot) y .1))) other
 
 module _ (s p : ℕ) (slot : p < 16) where
-  head-firm :
+  firm-after-head :
       (t : Tables) (step : Step) → Sound t → Promised t s p → isWord t s p step ≡ false
       → Firm (lookOf step .trip) (visitAt (headOf t step .tables) s p)
   unfolding headOf
-  head-firm t step z k f =
+  firm-after-head t step z k f =
       stored-has
       (Firm (lookOf step .trip))
       t
@@ -195,13 +195,13 @@ module _ (s p : ℕ) (slot : p < 16) where
       s
       p
       slot
-      (λ a b. decided-firm t step _ (subst₂ (λ (x y : ℕ). Promised t x y) a b k) (subst₂ (λ (x y : ℕ). isWord t x y step ≡ false) a b f))
+      (λ a b. firm-after-decided t step _ (subst₂ (λ (x y : ℕ). Promised t x y) a b k) (subst₂ (λ (x y : ℕ). isWord t x y step ≡ false) a b f))
       (firm (lookOf step .trip) (visitAt t s p) (k .there) (k .prepared))
 
-  turn-firm :
+  firm-after-turn :
       (trip : Trip) (n : ℕ) (o : Outcome) → n < 16 → Sound (o .tables) → Firm trip (visitAt (o .tables) s p)
       → Firm trip (visitAt (turnOf trip n o .tables) s p)
-  turn-firm trip n o l z k =
+  firm-after-turn trip n o l z k =
       rw
       (turn-stored trip n o)
       (stored-has
@@ -214,21 +214,21 @@ module _ (s p : ℕ) (slot : p < 16) where
       s
       p
       slot
-      (λ a b. turned-firm trip n (seenOf (o .tables) (tripPlaces trip n)) (subst₂ (λ (x w : ℕ). Firm trip (visitAt (o .tables) x w)) a b k))
+      (λ a b. firm-after-turned trip n (seenOf (o .tables) (tripPlaces trip n)) (subst₂ (λ (x w : ℕ). Firm trip (visitAt (o .tables) x w)) a b k))
       k)
 
   -- in any tables: a promised visit is there after every step that is no word of home to it
-  pub promised-stays :
+  pub promised-after-step :
       (t : Tables) (step : Step) → Sound t → Promised t s p → isWord t s p step ≡ false
       → visitAt (stepOf t step .tables) s p .there ≡ true
-  promised-stays t step z k f =
+  promised-after-step t step z k f =
       sound-step-has
       t
       step
       z
       (λ n u. Firm (lookOf step .trip) (visitAt u s p))
-      (turn-firm (lookOf step .trip))
-      (λ a. head-firm t step z k f)
+      (firm-after-turn (lookOf step .trip))
+      (λ a. firm-after-head t step z k f)
       (λ u. visitAt u s p .there ≡ true)
       (k .there)
       (λ u. firm-there (lookOf step .trip) (visitAt u s p))
@@ -244,7 +244,7 @@ module _ (s p : ℕ) (slot : p < 16) where
         (either (isAccepted (stepOf t step .answer))),
     ⊎-elim
         (λ e. e)
-        (λ e. absurd (true≢false (sym (promised-stays t step z k e) ∙ gone)))
+        (λ e. absurd (true≢false (sym (promised-after-step t step z k e) ∙ gone)))
         (either (isWord t s p step)),
   )
 

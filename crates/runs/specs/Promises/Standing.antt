@@ -66,79 +66,79 @@ abbrev Stands : Visit → Type 0
 Stands v = (v .there ≡ true) × (v .prepared ≡ true)
 
 -- an accepted decision leaves what was decided where no check holds
-settled-stands :
+stands-after-settled :
     (cs : List Check) (v : ℕ) (seen left : Seen) → (Fine cs → Stands (left .visit)) → Stands (seen .visit)
     → Stands (settleOf (record { answer = firstOf cs v; left = left }) seen .left .visit)
-settled-stands cs v seen left = settled (λ (x : Seen). Stands (x .visit)) cs v seen left
+stands-after-settled cs v seen left = settled (λ (x : Seen). Stands (x .visit)) cs v seen left
 
 -- a round of another kind opens or closes: the mark stays
-closed-stands : (k : Kind) (m : ℕ) (v : Visit) → Stands v → isPrepare k ≡ false → Stands (whereThere v (toldVisit (toldOf k m) v))
-closed-stands Kind.None m v e f = cond-keeps Stands (v .there) _ v e e
-closed-stands (Kind.Refresh q r) m v e f = cond-keeps Stands (v .there) _ v e e
-closed-stands Kind.Terminate m v e f = cond-keeps Stands (v .there) _ v e e
-closed-stands Kind.Prepare m v e f = absurd (true≢false f)
+stands-after-closed : (k : Kind) (m : ℕ) (v : Visit) → Stands v → isPrepare k ≡ false → Stands (whereThere v (toldVisit (toldOf k m) v))
+stands-after-closed Kind.None m v e f = cond-keeps Stands (v .there) _ v e e
+stands-after-closed (Kind.Refresh q r) m v e f = cond-keeps Stands (v .there) _ v e e
+stands-after-closed Kind.Terminate m v e f = cond-keeps Stands (v .there) _ v e e
+stands-after-closed Kind.Prepare m v e f = absurd (true≢false f)
 
-asked-stands : (asked : Asked) (n clock : ℕ) (v : Visit) → Stands v → isTerminate asked ≡ false → Stands (askedVisit asked n clock v)
-asked-stands (Asked.Refresh r) n clock v k f = k
-asked-stands Asked.Terminate n clock v k f = absurd (true≢false f)
-asked-stands Asked.Prepare n clock v k f = (k .0, refl)
+stands-after-asked : (asked : Asked) (n clock : ℕ) (v : Visit) → Stands v → isTerminate asked ≡ false → Stands (askedVisit asked n clock v)
+stands-after-asked (Asked.Refresh r) n clock v k f = k
+stands-after-asked Asked.Terminate n clock v k f = absurd (true≢false f)
+stands-after-asked Asked.Prepare n clock v k f = (k .0, refl)
 
-told-stands : (told : Told) (v : Visit) → Stands v → tellsPrepare told ≡ false → Stands (toldVisit told v)
-told-stands (Told.Refresh q) v k f = k
-told-stands (Told.Terminate m) v k f = k
-told-stands Told.Prepare v k f = absurd (true≢false f)
+stands-after-told : (told : Told) (v : Visit) → Stands v → tellsPrepare told ≡ false → Stands (toldVisit told v)
+stands-after-told (Told.Refresh q) v k f = k
+stands-after-told (Told.Terminate m) v k f = k
+stands-after-told Told.Prepare v k f = absurd (true≢false f)
 
-mail-stands :
+stands-after-mail :
     (body : Body) (m : ℕ) (seen : Seen) → Mail body → Stands (seen .visit) → (carriesCommit body || asksTerminate body) ≡ false
     → Stands (deliverBodyOf body m seen .left .visit)
 unfolding deliverBodyOf deliverCallOf deliverPhaseOneOf deliverPhaseTwoOf
-mail-stands _ m seen (Mail.Calls c) k f = settled-stands _ _ seen _ (λ g. rw (k .0) (refl, k .1)) k
-mail-stands _ m seen (Mail.Asks n asked) k f = settled-stands _ _ seen _ (λ g. asked-stands asked n _ (seen .visit) k f) k
-mail-stands _ m seen (Mail.Tells n told) k f = settled-stands _ _ seen _ (λ g. told-stands told (seen .visit) k (or-left (tellsPrepare told) false f)) k
-mail-stands _ m seen (Mail.Quiet body objects visit) k f = rw (visit m seen) k
+stands-after-mail _ m seen (Mail.Calls c) k f = stands-after-settled _ _ seen _ (λ g. rw (k .0) (refl, k .1)) k
+stands-after-mail _ m seen (Mail.Asks n asked) k f = stands-after-settled _ _ seen _ (λ g. stands-after-asked asked n _ (seen .visit) k f) k
+stands-after-mail _ m seen (Mail.Tells n told) k f = stands-after-settled _ _ seen _ (λ g. stands-after-told told (seen .visit) k (or-left (tellsPrepare told) false f)) k
+stands-after-mail _ m seen (Mail.Quiet body objects visit) k f = rw (visit m seen) k
 
 -- at its own slot and site a step of home lets off
 home-here : (a b : ℕ) → (eqb a a && eqb b b) ≡ false → ⊥
 home-here a b f = true≢false (rw (eq-eqb a a refl, eq-eqb b b refl) at f)
 
 -- a slot in use is not begun
-marked-stands :
+stands-after-marked :
     (t : Tables) (step : Step) (found : Found) → Marks step → Stands (visitAt t (placesOf t (lookOf step) .site) (placesOf t (lookOf step) .slot))
     → isFree (passageAt t (placesOf t (lookOf step) .slot) .status) ≡ false
     → letsOff t (placesOf t (lookOf step) .site) (placesOf t (lookOf step) .slot) step ≡ false
     → Stands (decideOf step found (seenOf t (placesOf t (lookOf step))) .left .visit)
 unfolding placesOf decideOf beginOf abortOf terminateOf prepareOf openOf closeOf
-marked-stands t _ found (Marks.Begins home slot q r) k u f =
-    settled-stands _ _ _ _ (λ g. absurd (true≢false (sym (not-false (isFree (passageAt t (slotOf slot) .status)) (g .state)) ∙ u))) k
-marked-stands t _ found (Marks.Terminates h) k u f = absurd (home-here (slotOf h) (passageAt t (slotOf h) .home % 8) f)
-marked-stands t _ found (Marks.Prepares h) k u f = settled-stands _ _ _ _ (λ g. (k .0, refl)) k
-marked-stands t _ found (Marks.Closes h) k u f =
-    settled-stands
+stands-after-marked t _ found (Marks.Begins home slot q r) k u f =
+    stands-after-settled _ _ _ _ (λ g. absurd (true≢false (sym (not-false (isFree (passageAt t (slotOf slot) .status)) (g .state)) ∙ u))) k
+stands-after-marked t _ found (Marks.Terminates h) k u f = absurd (home-here (slotOf h) (passageAt t (slotOf h) .home % 8) f)
+stands-after-marked t _ found (Marks.Prepares h) k u f = stands-after-settled _ _ _ _ (λ g. (k .0, refl)) k
+stands-after-marked t _ found (Marks.Closes h) k u f =
+    stands-after-settled
     _
     _
     _
     _
-    (λ g. closed-stands (passageAt t (slotOf h) .round .kind) _ _ k (word-here (slotOf h) (passageAt t (slotOf h) .home % 8) _ f))
+    (λ g. stands-after-closed (passageAt t (slotOf h) .round .kind) _ _ k (word-here (slotOf h) (passageAt t (slotOf h) .home % 8) _ f))
     k
-marked-stands t _ found (Marks.Aborts h) k u f = absurd (home-here (slotOf h) (passageAt t (slotOf h) .home % 8) f)
-marked-stands t _ found (Marks.Delivers m) k u f =
-    mail-stands
+stands-after-marked t _ found (Marks.Aborts h) k u f = absurd (home-here (slotOf h) (passageAt t (slotOf h) .home % 8) f)
+stands-after-marked t _ found (Marks.Delivers m) k u f =
+    stands-after-mail
     (messageAt t (m % 32) .body)
     m
     _
     (mailOf (messageAt t (m % 32) .body))
     k
     (word-here (slotOf (messageAt t (m % 32) .handle)) (messageAt t (m % 32) .destination % 8) _ f)
-marked-stands t _ found (Marks.Stay step there prepared) k u f =
+stands-after-marked t _ found (Marks.Stay step there prepared) k u f =
     let seen = seenOf t (placesOf t (lookOf step)) in
     (there found seen ∙ k .0, prepared found seen ∙ k .1)
 
-decided-stands :
+stands-after-decided :
     (t : Tables) (step : Step) (found : Found) → Stands (visitAt t (placesOf t (lookOf step) .site) (placesOf t (lookOf step) .slot))
     → isFree (passageAt t (placesOf t (lookOf step) .slot) .status) ≡ false
     → letsOff t (placesOf t (lookOf step) .site) (placesOf t (lookOf step) .slot) step ≡ false
     → Stands (decideOf step found (seenOf t (placesOf t (lookOf step))) .left .visit)
-decided-stands t step found = marked-stands t step found (deedOf step .marks)
+stands-after-decided t step found = stands-after-marked t step found (deedOf step .marks)
 
 -- ---- what one slot of a sweep or of a crash leaves of its visit and its passage
 
@@ -148,17 +148,17 @@ Stays Trip.Nowhere x = Unit {0}
 Stays (Trip.Sweep site) x = Unit {0}
 Stays (Trip.Crash site) x = losesHome site x ≡ false
 
-turned-stands : (trip : Trip) (n : ℕ) (seen : Seen) → Stays trip (seen .passage) → Stands (seen .visit) → Stands (turnSeen trip n seen .visit)
+stands-after-turned : (trip : Trip) (n : ℕ) (seen : Seen) → Stays trip (seen .passage) → Stands (seen .visit) → Stands (turnSeen trip n seen .visit)
 unfolding crashedSlot
-turned-stands Trip.Nowhere n seen w k = k
-turned-stands (Trip.Sweep site) n seen w k = rw (prepared-not-swept site n seen (k .1)) k
-turned-stands (Trip.Crash site) n seen w k = cond-keeps Stands (seen .visit .there) _ (seen .visit) (rw (w, k .1) (k .0, refl)) k
+stands-after-turned Trip.Nowhere n seen w k = k
+stands-after-turned (Trip.Sweep site) n seen w k = rw (prepared-not-swept site n seen (k .1)) k
+stands-after-turned (Trip.Crash site) n seen w k = cond-keeps Stands (seen .visit .there) _ (seen .visit) (rw (w, k .1) (k .0, refl)) k
 
-turned-stays : (trip : Trip) (n : ℕ) (seen : Seen) → Stays trip (seen .passage) → Stays trip (turnSeen trip n seen .passage)
+way-after-turned : (trip : Trip) (n : ℕ) (seen : Seen) → Stays trip (seen .passage) → Stays trip (turnSeen trip n seen .passage)
 unfolding crashedSlot
-turned-stays Trip.Nowhere n seen w = tt
-turned-stays (Trip.Sweep site) n seen w = tt
-turned-stays (Trip.Crash site) n seen w =
+way-after-turned Trip.Nowhere n seen w = tt
+way-after-turned (Trip.Sweep site) n seen w = tt
+way-after-turned (Trip.Crash site) n seen w =
     subst (λ (c : Bool). losesHome site (cond c (abortedPassage (seen .passage)) (seen .passage)) ≡ false) (sym w) w
 
 -- ---- steps, for the visit of one slot at one site
@@ -183,11 +183,11 @@ module _ (s p : ℕ) (slot : p < 16) where
   abbrev OnWay : Trip → Tables → Type 0
   OnWay trip u = Stands (visitAt u s p) × Away trip (passageAt u p)
 
-  head-stands :
+  stands-after-head :
       (t : Tables) (step : Step) → Sound t → Promised t s p → isFree (passageAt t p .status) ≡ false → letsOff t s p step ≡ false
       → Stands (visitAt (headOf t step .tables) s p)
   unfolding headOf
-  head-stands t step z k u f =
+  stands-after-head t step z k u f =
       stored-has
       Stands
       t
@@ -199,7 +199,7 @@ module _ (s p : ℕ) (slot : p < 16) where
       p
       slot
       (λ a b.
-      decided-stands
+      stands-after-decided
       t
       step
       _
@@ -248,23 +248,23 @@ module _ (s p : ℕ) (slot : p < 16) where
       λ a b. subst (λ (x : ℕ). Stays trip (passageAt (o .tables) x)) b (w a) in
       rw (turn-stored trip n o) (
         stored-has Stands (o .tables) at _ (z .sized) (placed-trip trip n l) s p slot
-            (λ a b. turned-stands trip n (seenOf (o .tables) at) (here a b) (subst₂ (λ (x y : ℕ). Stands (visitAt (o .tables) x y)) a b k))
+            (λ a b. stands-after-turned trip n (seenOf (o .tables) at) (here a b) (subst₂ (λ (x y : ℕ). Stands (visitAt (o .tables) x y)) a b k))
             k,
-        λ a. passage-has (Stays trip) (o .tables) at _ (z .sized) (placed-trip trip n l) p (λ b. turned-stays trip n (seenOf (o .tables) at) (here a b)) (w a),
+        λ a. passage-has (Stays trip) (o .tables) at _ (z .sized) (placed-trip trip n l) p (λ b. way-after-turned trip n (seenOf (o .tables) at) (here a b)) (w a),
       )
 
   -- in any tables: the promise to a passage in use stands after every step that does not let the station off
-  pub promise-stands :
+  pub promise-after-step :
       (t : Tables) (step : Step) → Sound t → Promised t s p → isFree (passageAt t p .status) ≡ false → letsOff t s p step ≡ false
       → Promised (stepOf t step .tables) s p
-  promise-stands t step z k u f =
+  promise-after-step t step z k u f =
       sound-step-has
       t
       step
       z
       (λ n x. OnWay (lookOf step .trip) x)
       (turn-on-way (lookOf step .trip))
-      (λ a. (head-stands t step z k u f, head-away t step z f))
+      (λ a. (stands-after-head t step z k u f, head-away t step z f))
       (λ x. Promised x s p)
       k
       (λ x y. record { there = y .0 .0; prepared = y .0 .1 })
@@ -302,16 +302,16 @@ module _ {t₀ : Tables} (fresh : Started t₀) (s p : ℕ) (slot : p < 16) wher
       next : Promised (stepOf (runOf t₀ ss) x .tables) s p
       next =
           ⊎-elim
-          (λ e. promise-stands s p slot (runOf t₀ ss) x (sound-run fresh ss) k (in-use ss (k .there)) (rw e at f))
+          (λ e. promise-after-step s p slot (runOf t₀ ss) x (sound-run fresh ss) k (in-use ss (k .there)) (rw e at f))
           (λ e. rw (refused-leaves (runOf t₀ ss) x e) k)
           (either (isAccepted (stepOf (runOf t₀ ss) x .answer)))
 
-  run-stands :
+  stands-after-run :
       (ss after : List Step) → Promised (runOf t₀ ss) s p → letOffIn (runOf t₀ ss) s p after ≡ false
       → StandsFrom (runOf t₀ ss) (runOf (runOf t₀ ss) after) s p
   unfolding runOf letOffIn
-  run-stands ss [] k f = record { promised = k; objects = λ j y held. held }
-  run-stands ss (x ∷ xs) k f =
+  stands-after-run ss [] k f = record { promised = k; objects = λ j y held. held }
+  stands-after-run ss (x ∷ xs) k f =
       let now : Bool = isAccepted (stepOf (runOf t₀ ss) x .answer) && letsOff (runOf t₀ ss) s p x in
       let e : runOf t₀ (ss ++ (x ∷ [])) ≡ stepOf (runOf t₀ ss) x .tables = run-on t₀ ss (x ∷ []) in
       let a : StandsFrom (runOf t₀ ss) (stepOf (runOf t₀ ss) x .tables) s p = one-step ss x k (or-left now _ f) in
@@ -319,7 +319,7 @@ module _ {t₀ : Tables} (fresh : Started t₀) (s p : ℕ) (slot : p < 16) wher
       subst
       (λ (t : Tables). Promised t s p → letOffIn t s p xs ≡ false → StandsFrom t (runOf t xs) s p)
       e
-      (run-stands (ss ++ (x ∷ [])) xs)
+      (stands-after-run (ss ++ (x ∷ [])) xs)
       (a .promised)
       (or-right now _ f) in
       record { promised = b .promised; objects = λ j y held. b .objects j y (a .objects j y held) }
@@ -331,4 +331,4 @@ pub promise-stands-until-let-off :
     → letOffIn (runOf t₀ before) s p after ≡ false
     → StandsFrom (runOf t₀ before) (runOf t₀ (before ++ after)) s p
 promise-stands-until-let-off {t₀} fresh before after s p slot k f =
-    rw (run-on t₀ before after) (run-stands fresh s p slot before after k f)
+    rw (run-on t₀ before after) (stands-after-run fresh s p slot before after k f)

@@ -86,9 +86,9 @@ abbrev pub OwnChange : ℕ → Message → Message → Type 0
 OwnChange p was left = (left ≡ was) ⊎ (Own p was × Own p left)
 
 -- another slot sees nothing of it
-pub other-still : (p q : ℕ) (was left : Message) → OwnChange p was left → q ≢ p → mailOf q left ≡ mailOf q was
-other-still p q was left (inl e) n = ap (mailOf q) e
-other-still p q was left (inr e) n = other-mail p q left (e .1) n ∙ sym (other-mail p q was (e .0) n)
+pub mail-after-other : (p q : ℕ) (was left : Message) → OwnChange p was left → q ≢ p → mailOf q left ≡ mailOf q was
+mail-after-other p q was left (inl e) n = ap (mailOf q) e
+mail-after-other p q was left (inr e) n = other-mail p q left (e .1) n ∙ sym (other-mail p q was (e .0) n)
 
 module _ (t : Tables) (at : Places) (left : Seen) (z : Sized t) (h : Placed at) where
   stored-clock : (s : ℕ) → siteAt (stored t at left) s .clock ≡ put (λ x. siteAt t x .clock) (at .site) (left .site .clock) s
@@ -170,15 +170,15 @@ pub record Fitting (t : Tables) (at : Places) (left : Seen) : Type 0 where
       (nextLedger l (at .site) (seenOf t at) left)
 
 -- an accepted decision leaves what it decided
-pub settled-fits :
+pub fitting-after-settled :
     (t : Tables) (at : Places) (d : Decision) → isAccepted (d .answer) ≡ true → Fitting t at (d .left)
     → Fitting t at (settleOf d (seenOf t at) .left)
-settled-fits t at d e x = subst (Fitting t at) (sym (settle-accepted d (seenOf t at) e)) x
+fitting-after-settled t at d e x = subst (Fitting t at) (sym (settle-accepted d (seenOf t at) e)) x
 
 -- then every slot's invariant is kept: its own by its law, the others' by the frame law
 module _ (t : Tables) (at : Places) (left : Seen) (z : Sized t) (h : Placed at) (x : Fitting t at left) where
-  other-kept : (p : ℕ) (l : Ledger) → p < 16 → p ≢ at .slot → Holds (viewOf t p) l → Holds (viewOf (stored t at left) p) l
-  other-kept p l b n k =
+  holds-after-other : (p : ℕ) (l : Ledger) → p < 16 → p ≢ at .slot → Holds (viewOf t p) l → Holds (viewOf (stored t at left) p) l
+  holds-after-other p l b n k =
       rw
       (other-view t at left z h p b n)
       (shrunk
@@ -199,23 +199,23 @@ module _ (t : Tables) (at : Places) (left : Seen) (z : Sized t) (h : Placed at) 
       (at .message)
       (mailOf p (left .message))
       (λ i m. (m ≡ viewOf t p .mail i) ⊎ (m .body ≡ Body.Empty))
-      (inl (other-still (at .slot) p (messageAt t (at .message)) (left .message) (x .mail) n))
+      (inl (mail-after-other (at .slot) p (messageAt t (at .message)) (left .message) (x .mail) n))
       (λ i e. inl refl))
       (λ s e. refl)
       (λ s y e. inl e)
       k)
 
-  pub fitting-kept :
+  pub holds-after-fitting :
       (ls : ℕ → Ledger) → ((p : ℕ) → p < 16 → Holds (viewOf t p) (ls p)) → (p : ℕ) → p < 16
       → Holds (viewOf (stored t at left) p) (nextLedgers ls at (seenOf t at) left p)
-  fitting-kept ls k p b =
+  holds-after-fitting ls k p b =
       put-all
       ls
       (at .slot)
       (nextLedger (ls (at .slot)) (at .site) (seenOf t at) left)
       (λ q l. q < 16 → Holds (viewOf (stored t at left) q) l)
       (λ c. rw (own-view t at left z h) (x .own (ls (at .slot)) (k (at .slot) (h .slot))))
-      (λ q n c. other-kept q (ls q) c n (k q c))
+      (λ q n c. holds-after-other q (ls q) c n (k q c))
       p
       b
 
@@ -256,11 +256,11 @@ pub noted-gone : (l : Ledger) (a source : ℕ) (v : Visit) → v .there ≡ fals
 noted-gone l a source v e = put-back l a _ (rw e refl)
 
 -- the clock moves, and a message may be lost
-pub raised-kept :
+pub holds-after-raised :
     (w : View) (l : Ledger) (a k c : ℕ) (m : Message) → Holds w l → w .clock a ≤ c
     → (m ≡ w .mail k) ⊎ (m .body ≡ Body.Empty)
     → Holds (leftView w a k (w .passage) (w .visit a) c m) l
-raised-kept w l a k c m h i e =
+holds-after-raised w l a k c m h i e =
     shrunk
     w
     (put (w .visit) a (w .visit a))
@@ -282,16 +282,16 @@ raised-kept w l a k c m h i e =
     h
 
 -- the same, with the ledger that a step without news leaves
-pub idle-kept :
+pub holds-after-idle :
     (w : View) (l : Ledger) (a k c source : ℕ) (m : Message) → Holds w l → w .clock a ≤ c
     → (m ≡ w .mail k) ⊎ (m .body ≡ Body.Empty)
     → Holds
     (leftView w a k (w .passage) (w .visit a) c m)
     (cond (isFree (w .passage .status)) noLedger (noted l a source (w .visit a)))
-idle-kept w l a k c source m h i e = go (w .passage .status) refl
+holds-after-idle w l a k c source m h i e = go (w .passage .status) refl
   where
     left : Holds (leftView w a k (w .passage) (w .visit a) c m) l
-    left = raised-kept w l a k c m h i e
+    left = holds-after-raised w l a k c m h i e
 
     used : Holds (leftView w a k (w .passage) (w .visit a) c m) (noted l a source (w .visit a))
     used = rw (noted-same w l a source h) left

@@ -12,7 +12,7 @@ use Rattle.rules.specs.Machine.{lookOf, headOf, turnOf, stepOf}
 use Rattle.rules.specs.StoredLaws.{Sized, sized-after-stored, sized-after-turn}
 use Rattle.rules.specs.Runs.{Started, runOf}
 use Rattle.runs.specs.Types.{Tables, Step, Outcome}
-use Rattle.runs.specs.Walk.Steps.{turnedOf, turnsOf, accepted-has, step-has, step-keeps, run-keeps}
+use Rattle.runs.specs.Walk.Steps.{turnedOf, turnsOf, accepted-has, step-has, good-after-step, good-after-run}
 
 -- ---- an invariant of the tables alone, without a ghost
 
@@ -23,7 +23,7 @@ module _ (Good : Tables → Type 0)
     (turn-keeps : (trip : Trip) (slot : ℕ) (o : Outcome) → slot < 16 → Good (o .tables) → Good (turnOf trip slot o .tables)) where
   pub step-holds : (t : Tables) (step : Step) → Good t → Good (stepOf t step .tables)
   step-holds t step k =
-      step-keeps
+      good-after-step
       {G = Unit {0}}
       (λ u s g. g)
       (λ trip slot u g. g)
@@ -37,7 +37,7 @@ module _ (Good : Tables → Type 0)
 
   pub run-holds : (t : Tables) (ss : List Step) → Good t → Good (runOf t ss)
   run-holds t ss k =
-      run-keeps
+      good-after-run
       {G = Unit {0}}
       (λ u s g. g)
       (λ trip slot u g. g)

@@ -103,9 +103,9 @@ module _ {G : Type 0} (head : Tables → Step → G → G) (turn : Trip → ℕ 
     (turn-keeps :
     (trip : Trip) (slot : ℕ) (o : Outcome) (g : G) → slot < 16 → Good (o .tables) g
     → Good (turnOf trip slot o .tables) (turn trip slot (o .tables) g)) where
-  pub step-keeps : (t : Tables) (step : Step) (g : G) → Good t g → Good (stepOf t step .tables) (ghostStep head turn t step g)
+  pub good-after-step : (t : Tables) (step : Step) (g : G) → Good t g → Good (stepOf t step .tables) (ghostStep head turn t step g)
   unfolding ghostTurns
-  step-keeps t step g k =
+  good-after-step t step g k =
       ⊎-elim
       (λ e.
       rw
@@ -120,11 +120,11 @@ module _ {G : Type 0} (head : Tables → Step → G → G) (turn : Trip → ℕ 
       (λ e. rw (ghost-refused head turn t step g e, refused-leaves t step e) k)
       (either (isAccepted (stepOf t step .answer)))
 
-  pub run-keeps : (t : Tables) (ss : List Step) (g : G) → Good t g → Good (runOf t ss) (ghostRun head turn t ss g)
+  pub good-after-run : (t : Tables) (ss : List Step) (g : G) → Good t g → Good (runOf t ss) (ghostRun head turn t ss g)
   unfolding runOf ghostRun
-  run-keeps t [] g k = k
-  run-keeps t (s ∷ ss) g k =
-      run-keeps (stepOf t s .tables) ss (ghostStep head turn t s g) (step-keeps t s g k)
+  good-after-run t [] g k = k
+  good-after-run t (s ∷ ss) g k =
+      good-after-run (stepOf t s .tables) ss (ghostStep head turn t s g) (good-after-step t s g k)
 
 -- ---- a run is its first part and then the rest
 
