@@ -14,6 +14,7 @@ pub mod WatchSteps
 pub mod Swept
 pub mod OrphansGone
 pub mod DemandThree
+pub mod Widths
 pub mod Rests
 pub mod RestSteps
 pub mod Undone

@@ -20,9 +20,10 @@ use Rattle.runs.specs.Walk.Plain.{repeat-has}
 use Rattle.runs.specs.Walk.Steps.{run-on}
 use Rattle.runs.specs.Holders.Holders.{held-run}
 use Rattle.runs.specs.Orphans.Orphans.{retires}
-use Rattle.runs.specs.Promises.Handles.{retiresIn, generationAt, generation-counts-retires}
+use Rattle.runs.specs.Promises.Handles.{generation-counts-retires}
 use Rattle.runs.specs.Events.Uses.{usesAfter, usesFrom, useOf, PassageEvent, eventsUpTo, isOf, holdAfter, heldSince, heldIn, frees, isFreedIn, TakenAndNotFreed}
 use Rattle.runs.specs.Events.HeldByList.{since-joined, retired-holds-nothing, held-is-listed, held-by-list}
+use Rattle.runs.specs.Promises.Definitions.{retiresIn, generationAt}
 
 -- ---- held by a list: taken and not freed since
 

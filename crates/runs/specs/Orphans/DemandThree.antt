@@ -7,7 +7,7 @@ use mathlib.Core.Bool.{Bool, true, false, cond, true≢false, false≢true}
 use mathlib.Core.List.{List, [], _∷_}
 use Rattle.rules.specs.Loops.{mostUpTo}
 use Rattle.rules.specs.LoopsLaws.{either}
-use Rattle.rules.specs.Tables.{siteAt, passageAt, visitAt, messageAt, objectSite}
+use Rattle.rules.specs.Tables.{siteAt, passageAt, visitAt, messageAt}
 use Rattle.rules.specs.Answers.{isAccepted}
 use Rattle.rules.specs.Machine.{headOf, isMessageOf, stepOf}
 use Rattle.rules.specs.Runs.{Started, runOf, runRecordsOf, historyOf}
@@ -21,40 +21,11 @@ use Rattle.runs.specs.Holders.HeldStore.{Held}
 use Rattle.runs.specs.Holders.Holders.{held-run, held-step, held-from}
 use Rattle.runs.specs.Walk.Counted.{steps-drive}
 use Rattle.runs.specs.Orphans.Swept.{Ripe, swept-away, swept-clock}
-use Rattle.runs.specs.Orphans.Orphans.{beganCommit, isRetired, stepsAt, mailLatest, latest, latestOfAll}
+use Rattle.runs.specs.Orphans.Orphans.{NothingLeft, Released, beganCommit, isRetired, stepsAt, mailLatest, latest, latestOfAll}
 use Rattle.runs.specs.Orphans.Watch.{Known, Plain, Bounded, Watch}
 use Rattle.runs.specs.Orphans.WatchStore.{knownHead, knownTurn}
 use Rattle.runs.specs.Orphans.WatchSteps.{knownNothing, watch-head, watch-run, watch-started}
 use Rattle.runs.specs.Orphans.OrphansGone.{known-commit, known-watched, known-cleared, bounded-now}
-
--- ---- the statement
-
--- "no visit and no held object" of the slot at the station
-pub record NothingLeft (t : Tables) (slot site : ℕ) : Type 0 where
-  pub visit : visitAt t site slot .there ≡ false
-  pub object : (k : ℕ) → k < 32 → objectSite k ≡ site → isHolding t slot k ≡ false
-
--- what the demand says of a passage slot and a station, from the moment at which the tables are t, for this T
-pub record Released (t : Tables) (slot site T : ℕ) : Type 0 where
-  -- "After any further steps .. while it is not retired: once that station's clock has reached T, an accepted sweep there leaves it no visit and no held object".
-  -- The clock is the one that the sweep itself has moved, so this says a little more than the demand
-  pub swept :
-      (after : List Step) → isRetired slot (historyOf t after) ≡ false
-      → isAccepted (stepOf (runOf t after) (Step.Sweep site) .answer) ≡ true
-      → (reached : T ≤ siteAt (stepOf (runOf t after) (Step.Sweep site) .tables) site .clock)
-      → NothingLeft (stepOf (runOf t after) (Step.Sweep site) .tables) slot site
-  -- "and it gains none there again": at every later moment
-  pub never-again :
-      (after later : List Step) → isRetired slot (historyOf t after) ≡ false
-      → isAccepted (stepOf (runOf t after) (Step.Sweep site) .answer) ≡ true
-      → T ≤ siteAt (stepOf (runOf t after) (Step.Sweep site) .tables) site .clock
-      → (kept : isRetired slot (historyOf (stepOf (runOf t after) (Step.Sweep site) .tables) later) ≡ false)
-      → NothingLeft (runOf (stepOf (runOf t after) (Step.Sweep site) .tables) later) slot site
-  -- "Where the clock is behind T, at most T minus the clock accepted steps at that station bring it to T": at any later moment too
-  pub in-time :
-      (after later : List Step)
-      → T - siteAt (runOf t after) site .clock ≤ stepsAt site (historyOf (runOf t after) later)
-      → T ≤ siteAt (runOf (runOf t after) later) site .clock
 
 -- ---- no visit, no hold
 

@@ -1,13 +1,16 @@
 -- Demand 3 in definitions: what it says of a moment in a run, from the list of accepted steps and from the tables. Assumes nothing.
-use Prim.Native.Nat.{ℕ, _+_, max}
+use Prim.Native.Nat.{ℕ, _+_, _-_, _<_, _≤_, max}
+use mathlib.Core.Path.{_≡_}
 use mathlib.Core.Bool.{Bool, true, false, cond, _&&_, _||_}
 use mathlib.Core.List.{List, [], _∷_}
 use lib.Dec.{eqb}
 use Rattle.rules.specs.Loops.{oneIf, mostUpTo}
-use Rattle.rules.specs.Tables.{visitAt, messageAt, slotOf}
+use Rattle.rules.specs.Tables.{siteAt, visitAt, messageAt, slotOf, objectSite}
+use Rattle.rules.specs.Answers.{isAccepted}
 use Rattle.rules.specs.Record.{flatOf, isStep}
-use Rattle.rules.specs.Runs.{Entry}
-use Rattle.rules.specs.Machine.{isMessageOf}
+use Rattle.rules.specs.Runs.{Entry, runOf, historyOf}
+use Rattle.rules.specs.Machine.{isMessageOf, stepOf}
+use Rattle.rules.specs.Events.{isHolding}
 use Rattle.runs.specs.Types.{Visit, Body, Message, Tables, Step}
 use Rattle.runs.specs.Walk.Says.{bodyLatest, bodyAll}
 
@@ -61,3 +64,32 @@ latest t p = latestBy bodyLatest t p
 -- the larger reading
 unfoldable pub latestOfAll : Tables → ℕ → ℕ
 latestOfAll t p = latestBy bodyAll t p
+
+-- ---- what the demand says
+
+-- "no visit and no held object" of the slot at the station
+pub record NothingLeft (t : Tables) (slot site : ℕ) : Type 0 where
+  pub visit : visitAt t site slot .there ≡ false
+  pub object : (k : ℕ) → k < 32 → objectSite k ≡ site → isHolding t slot k ≡ false
+
+-- what the demand says of a passage slot and a station, from the moment at which the tables are t, for this T
+pub record Released (t : Tables) (slot site T : ℕ) : Type 0 where
+  -- "After any further steps .. while it is not retired: once that station's clock has reached T, an accepted sweep there leaves it no visit and no held object".
+  -- The clock is the one that the sweep itself has moved, so this says a little more than the demand
+  pub swept :
+      (after : List Step) → isRetired slot (historyOf t after) ≡ false
+      → isAccepted (stepOf (runOf t after) (Step.Sweep site) .answer) ≡ true
+      → (reached : T ≤ siteAt (stepOf (runOf t after) (Step.Sweep site) .tables) site .clock)
+      → NothingLeft (stepOf (runOf t after) (Step.Sweep site) .tables) slot site
+  -- "and it gains none there again": at every later moment
+  pub never-again :
+      (after later : List Step) → isRetired slot (historyOf t after) ≡ false
+      → isAccepted (stepOf (runOf t after) (Step.Sweep site) .answer) ≡ true
+      → T ≤ siteAt (stepOf (runOf t after) (Step.Sweep site) .tables) site .clock
+      → (kept : isRetired slot (historyOf (stepOf (runOf t after) (Step.Sweep site) .tables) later) ≡ false)
+      → NothingLeft (runOf (stepOf (runOf t after) (Step.Sweep site) .tables) later) slot site
+  -- "Where the clock is behind T, at most T minus the clock accepted steps at that station bring it to T": at any later moment too
+  pub in-time :
+      (after later : List Step)
+      → T - siteAt (runOf t after) site .clock ≤ stepsAt site (historyOf (runOf t after) later)
+      → T ≤ siteAt (runOf (runOf t after) later) site .clock

@@ -26,8 +26,9 @@ use Rattle.runs.specs.Types.{Kind, Call, Told, Body, Tables, Step, Outco
 use Rattle.runs.specs.Walk.Says.{isPrepare, tellsPrepare, carriesCommit}
 use Rattle.runs.specs.Walk.Put.{same-or-other, set-at}
 use Rattle.runs.specs.Walk.Sound.{Sound, sound-step-has}
-use Rattle.runs.specs.Times.Ledgers.{seenAt}
-use Rattle.runs.specs.Orphans.Rests.{commits, Stands, Turned, standing-after-turned, standing-after-call, stands-after-freed, standing-after-restored, unheld-after-restored}
+use Rattle.runs.specs.Orphans.Rests.{Stands, Turned, standing-after-turned, standing-after-call, stands-after-freed, standing-after-restored, unheld-after-restored}
+use Rattle.runs.specs.Orphans.Widths.{commits}
+use Rattle.runs.specs.Walk.Steps.{seenAt}
 
 -- ---- the records that a step leaves
 

@@ -1,49 +1,14 @@
--- The width of an object at rest, kept along a run: the value that it had when nobody held it last. And what a change of one object does to it.
+-- The width that stands of an object, and what a change of one object does to it.
 -- The idea: the tables know it too, as the value while nobody holds the object and as the value before while someone does. Assumes nothing.
-use Rattle.rules.specs.Record.{isStep}
 use Prim.Native.Nat.{ℕ}
 use mathlib.Core.Path.{_≡_, refl, sym, ap, _∙_}
 use mathlib.Core.Logic.{_⊎_, inl, inr, ⊎-elim}
-use mathlib.Core.Bool.{Bool, true, false, cond, _&&_}
-use mathlib.Core.List.{List, [], _∷_}
+use mathlib.Core.Bool.{Bool, true, false, cond}
 use Rattle.rules.specs.declared.tables.Object.{Object}
 use Rattle.rules.specs.LoopsLaws.{either}
-use Rattle.rules.specs.Tables.{objectAt}
 use Rattle.rules.specs.Parts.{isUnheld, isHeldBy, taken, operated, unheld, freed, restored}
 use Rattle.rules.specs.PartsLaws.{unheld-not-held, held-not-unheld, let-go-unheld, before-of-called, called-not-unheld, freed-held, freed-other, restored-other}
-use Rattle.rules.specs.Machine.{stepOf}
-use Rattle.runs.specs.Types.{Call, Tables, Step, Seen}
-use Rattle.runs.specs.Walk.Says.{isPrepare, carriesCommit}
-
--- ---- the width at rest, along a run
-
--- in these tables nobody holds object k
-abbrev pub isAtRest : Tables → ℕ → Bool
-isAtRest t k = isUnheld (objectAt t k)
-
--- the width at rest once a step has left these tables: the object's value where nobody holds it, else what it was
-abbrev pub restAfter : Tables → ℕ → ℕ → ℕ
-restAfter t k rest = cond (isAtRest t k) (objectAt t k .value) rest
-
-unfoldable pub restFrom : Tables → List Step → ℕ → ℕ → ℕ
-restFrom t [] k rest = rest
-restFrom t (s ∷ ss) k rest = restFrom (stepOf t s .tables) ss k (restAfter (stepOf t s .tables) k rest)
-
--- where a run begins nobody holds any
-unfoldable pub restOf : Tables → List Step → ℕ → ℕ
-restOf t₀ ss k = restFrom t₀ ss k (objectAt t₀ k .value)
-
--- object k is held after each of these steps
-abbrev pub HeldThrough : Tables → List Step → ℕ → Type 0
-HeldThrough t [] k = Unit {0}
-HeldThrough t (s ∷ ss) k = (isAtRest (stepOf t s .tables) k ≡ false) × HeldThrough (stepOf t s .tables) ss k
-
--- ---- the steps that commit: phase 2 of a prepare, at home by close, elsewhere by a delivered message
-
--- by the step and what it sees: a close (code 8) of a commit round, or a delivery (code 11) of its word
-abbrev pub commits : Step → Seen → Bool
-commits step seen =
-    cond (isStep 8 step) (isPrepare (seen .passage .round .kind)) (isStep 11 step && carriesCommit (seen .message .body))
+use Rattle.runs.specs.Types.{Call}
 
 -- ---- the width that stands, read off one object
 

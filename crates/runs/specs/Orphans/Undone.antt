@@ -14,12 +14,12 @@ use Rattle.rules.specs.Machine.{stepOf}
 use Rattle.rules.specs.RefusedLaws.{refused-leaves}
 use Rattle.rules.specs.Runs.{Started, runOf}
 use Rattle.runs.specs.Types.{Tables, Step}
-use Rattle.runs.specs.Walk.Steps.{run-on}
+use Rattle.runs.specs.Walk.Steps.{seenAt, run-on}
 use Rattle.runs.specs.Walk.Sound.{Sound, sound-started, sound-step, sound-run}
 use Rattle.runs.specs.Holders.Holders.{started-unheld}
-use Rattle.runs.specs.Times.Ledgers.{seenAt}
-use Rattle.runs.specs.Orphans.Rests.{isAtRest, restAfter, restFrom, restOf, HeldThrough, commits, standing, standing-unheld, Stands}
+use Rattle.runs.specs.Orphans.Rests.{standing, standing-unheld, Stands}
 use Rattle.runs.specs.Orphans.RestSteps.{standing-after-step}
+use Rattle.runs.specs.Orphans.Widths.{isAtRest, restAfter, restFrom, restOf, HeldThrough, commits, Committed}
 
 -- ---- in every run the width at rest is the one that stands in the tables
 
@@ -73,12 +73,6 @@ value-is-rest {t₀} fresh ss k e = rw (rest-is-standing fresh ss k, e)
 rest-after-step : {t₀ : Tables} → Started t₀ → (ss : List Step) (s : Step) (k : ℕ) → restOf t₀ (ss ++ (s ∷ [])) k ≡ standing (objectAt (stepOf (runOf t₀ ss) s .tables) k)
 unfolding runOf
 rest-after-step {t₀} fresh ss s k = rest-is-standing fresh (ss ++ (s ∷ [])) k ∙ ap (λ (t : Tables). standing (objectAt t k)) (run-on t₀ ss (s ∷ []))
-
--- what is known of a step that changes the width at rest of object k: it is accepted, it commits, and the new width is the value that stood written
-pub record Committed (t₀ : Tables) (ss : List Step) (s : Step) (k : ℕ) : Type 0 where
-  pub accepted : isAccepted (stepOf (runOf t₀ ss) s .answer) ≡ true
-  pub commit : commits s (seenAt (runOf t₀ ss) s) ≡ true
-  pub width : restOf t₀ (ss ++ (s ∷ [])) k ≡ objectAt (runOf t₀ ss) k .value
 
 -- only a commit changes a width: no abort, no crash, no sweep and no retire does
 pub only-commits-change :

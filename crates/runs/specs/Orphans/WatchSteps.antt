@@ -22,9 +22,8 @@ use Rattle.rules.specs.Runs.{Started, runOf}
 use Rattle.runs.specs.Types.{Kind, Status, Passage, Body, Tables, Step, Places, Seen, Decision, Outcome}
 use Rattle.runs.specs.Walk.Plain.{repeat-has}
 use Rattle.runs.specs.Times.View.{mailOf, viewOf}
-use Rattle.runs.specs.Walk.Steps.{ghostRun, good-after-run}
+use Rattle.runs.specs.Walk.Steps.{placesAt, seenAt, ghostRun, good-after-run}
 use Rattle.runs.specs.Walk.Sound.{Sound, sound-head, sound-turn}
-use Rattle.runs.specs.Times.Ledgers.{placesAt, seenAt}
 use Rattle.runs.specs.Orphans.Watch.{Known, Watch}
 use Rattle.runs.specs.Orphans.WatchKept.{Follows, follows-same, watch-unwatched, plain-free, aborted-free}
 use Rattle.runs.specs.Orphans.WatchStore.{knownHead, knownTurn, Keeps, Guards, guards-of-kept, guarded}

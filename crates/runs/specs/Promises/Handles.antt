@@ -30,25 +30,11 @@ use Rattle.runs.specs.Walk.Steps.{accepted-turned, head-accepted, run-on
 use Rattle.runs.specs.Walk.Sound.{Sound, sound-started, sound-run, sound-step, sound-accepted-has}
 use Rattle.runs.specs.Walk.Plain.{repeat-has}
 use Rattle.runs.specs.Orphans.Orphans.{retires}
-
--- ---- definitions
-
--- the accepted retires of a slot in a list of accepted steps
-unfoldable pub retiresIn : ℕ → List Entry → ℕ
-retiresIn p [] = 0
-retiresIn p (e ∷ es) = oneIf (retires p (e .step)) + retiresIn p es
-
--- the generation of a slot
-abbrev pub generationAt : Tables → ℕ → ℕ
-generationAt t p = passageAt t p .generation
+use Rattle.runs.specs.Promises.Definitions.{retiresIn, generationAt, names}
 
 -- a generation after a step that is a retire of its slot, or is none: "255 is followed by 0"
 abbrev moved : Bool → ℕ → ℕ
 moved retire g = cond retire ((g + 1) % 256) g
-
--- does the step name this handle?
-abbrev pub names : ℕ → Step → Bool
-names h step = isNamed (rowOf (flatOf step .code)) 8 && eqb (flatOf step .h) h
 
 -- ---- what a decision leaves of the generation
 

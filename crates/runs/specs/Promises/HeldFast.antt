@@ -30,7 +30,8 @@ use Rattle.runs.specs.Types.{Visit, Call, Told, Body, Tables, Step, Plac
 use Rattle.runs.specs.Walk.Put.{same-or-other}
 use Rattle.runs.specs.Walk.Steps.{run-on}
 use Rattle.runs.specs.Walk.Sound.{Sound, sound-run, sound-step, sound-step-has}
-use Rattle.runs.specs.Promises.Promised.{Promised, isWord, stored-has, promised-after-step}
+use Rattle.runs.specs.Promises.Promised.{stored-has, promised-after-step}
+use Rattle.runs.specs.Promises.Definitions.{Promised, isWord, ThereThrough}
 
 -- ---- what a decision leaves of the objects that it saw
 
@@ -224,11 +225,6 @@ promised-object-held {t₀} fresh ss step k p slot promised held f =
     (λ e. e)
     (λ gone. absurd (true≢false (sym (promised-after-step (objectSite k) p slot (runOf t₀ ss) step (sound-run fresh ss) promised f) ∙ gone)))
     (let-go-with-visit k p slot (runOf t₀ ss) step (sound-run fresh ss) held)
-
--- the visit of this slot is there after each of the steps
-unfoldable pub ThereThrough : Tables → ℕ → ℕ → List Step → Type 0
-ThereThrough t site slot [] = Unit {0}
-ThereThrough t site slot (x ∷ xs) = (visitAt (stepOf t x .tables) site slot .there ≡ true) × ThereThrough (stepOf t x .tables) site slot xs
 
 held-through :
     (t : Tables) (ss : List Step) (k p : ℕ) → p < 16 → Sound t → isHolding t p k ≡ true

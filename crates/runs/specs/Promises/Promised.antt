@@ -3,7 +3,7 @@
 use Prim.Native.Nat.{ℕ, _%_, _<_}
 use mathlib.Core.Path.{_≡_, refl, sym, ap, _∙_, subst₂}
 use mathlib.Core.Logic.{_≢_, ⊎-elim, _⊎_, inl, inr}
-use mathlib.Core.Bool.{Bool, true, false, not, _&&_, _||_, true≢false, cond}
+use mathlib.Core.Bool.{Bool, true, false, not, _&&_, _||_, true≢false}
 use mathlib.Core.List.{List}
 use lib.Dec.{eqb, leb}
 use borrow.Author.Tests.{eq-eqb}
@@ -21,31 +21,14 @@ use Rattle.rules.specs.Machine.{lookOf, placesOf, seenOf, decideOf, stored, hea
 use Rattle.rules.specs.StoredLaws.{Sized, Placed, visit-place-same, visit-after-stored, visit-after-stored-other, turn-stored}
 use Rattle.rules.specs.RangesLaws.{placed-places, placed-trip}
 use Rattle.rules.specs.RefusedLaws.{refused-leaves}
-use Rattle.rules.specs.Record.{flatOf, isStep}
 use Rattle.rules.specs.Runs.{Started, runOf}
 use Rattle.rules.specs.Views.{settled, Marks, Mail, mailOf, deedOf}
-use Rattle.runs.specs.Types.{Kind, Visit, Told, Body, Message, Tables, Step, Places, Seen, Outcome, Found}
+use Rattle.runs.specs.Types.{Kind, Visit, Told, Body, Tables, Step, Places, Seen, Outcome, Found}
 use Rattle.runs.specs.Walk.Says.{isPrepare, tellsPrepare, carriesCommit}
 use Rattle.runs.specs.Walk.Put.{same-or-other}
 use Rattle.runs.specs.Kept.Times.{asked-says}
 use Rattle.runs.specs.Walk.Sound.{Sound, sound-run, sound-step-has}
-
--- ---- definitions
-
--- a visit that is there and prepared: its station has promised
-pub record Promised (t : Tables) (site slot : ℕ) : Type 0 where
-  pub there : visitAt t site slot .there ≡ true
-  pub prepared : visitAt t site slot .prepared ≡ true
-
--- is the step home's word to the visit of this slot at this site?
--- At home it is the close (code 8) of a commit round, else the delivery (code 11) there of a commit's phase 2 for the slot; refusal 9 sees to the round. (Sites are 0..7 and messages 0..31, so the remainders change nothing.)
-abbrev pub isWord : Tables → ℕ → ℕ → Step → Bool
-isWord t site slot step =
-    let m : Message = messageAt t (flatOf step .c % 32) in
-    cond
-    (isStep 8 step)
-    (eqb (slotOf (flatOf step .h)) slot && eqb (passageAt t slot .home % 8) site && isPrepare (passageAt t slot .round .kind))
-    (isStep 11 step && (eqb (slotOf (m .handle)) slot && eqb (m .destination % 8) site && carriesCommit (m .body)))
+use Rattle.runs.specs.Promises.Definitions.{Promised, isWord}
 
 -- ---- what a decision leaves of its visit
 

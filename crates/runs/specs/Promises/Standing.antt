@@ -9,7 +9,7 @@ use borrow.Author.Tests.{eq-eqb}
 use Rattle.rules.specs.declared.looking.Trip.{Trip}
 use Rattle.rules.specs.declared.outcomes.Check.{Check}
 use Rattle.rules.specs.LoopsLaws.{either, or-left, or-right, not-false, cond-keeps}
-use Rattle.rules.specs.Tables.{passageAt, visitAt, messageAt, objectSite, slotOf}
+use Rattle.rules.specs.Tables.{passageAt, visitAt, messageAt, slotOf}
 use Rattle.rules.specs.Answers.{isAccepted, firstOf, settleOf}
 use Rattle.rules.specs.AnswersLaws.{Fine}
 use Rattle.rules.specs.Parts.{isFree, abortedPassage, whereThere, toldOf, toldVisit, askedVisit}
@@ -21,43 +21,18 @@ use Rattle.rules.specs.Machine.{lookOf, placesOf, seenOf, decideOf, stored, hea
 use Rattle.rules.specs.StoredLaws.{Sized, Placed, passage-after-stored, passage-after-stored-other, turn-stored}
 use Rattle.rules.specs.RangesLaws.{placed-places, placed-trip}
 use Rattle.rules.specs.RefusedLaws.{refused-leaves}
-use Rattle.rules.specs.Record.{flatOf, isStep}
 use Rattle.rules.specs.Runs.{Started, runOf}
-use Rattle.rules.specs.Events.{isHolding}
 use Rattle.rules.specs.Views.{settled, Marks, Mail, mailOf, Goes, deedOf}
-use Rattle.runs.specs.Types.{Kind, Passage, Visit, Asked, Told, Body, Message, Tables, Step, Places, Seen, Outcome, Found}
+use Rattle.runs.specs.Types.{Kind, Passage, Visit, Asked, Told, Body, Tables, Step, Places, Seen, Outcome, Found}
 use Rattle.runs.specs.Walk.Says.{isPrepare, isTerminate, tellsPrepare, carriesCommit, asksTerminate}
 use Rattle.runs.specs.Walk.Put.{same-or-other}
 use Rattle.runs.specs.Fits.Life.{free-says}
 use Rattle.runs.specs.Walk.Steps.{run-on}
 use Rattle.runs.specs.Walk.Sound.{Sound, sound-run, sound-step-has}
 use Rattle.runs.specs.Times.RunLaws.{free-no-visit}
-use Rattle.runs.specs.Promises.Promised.{Promised, isWord, stored-has, prepared-not-swept, word-here}
+use Rattle.runs.specs.Promises.Promised.{stored-has, prepared-not-swept, word-here}
 use Rattle.runs.specs.Promises.HeldFast.{let-go-with-visit}
-
--- ---- definitions
-
--- does the step let the station off its promise to this slot? By the commit's last word (a close, code 8, or a delivery, code 11); by a terminate's first (code 5, or a delivery);
--- and at home by an abort (code 10), or by a crash (code 14) while the passage runs
-abbrev pub letsOff : Tables → ℕ → ℕ → Step → Bool
-letsOff t site slot step =
-    let m : Message = messageAt t (flatOf step .c % 32) in
-    cond
-    (isStep 5 step || isStep 10 step)
-    (eqb (slotOf (flatOf step .h)) slot && eqb (passageAt t slot .home % 8) site)
-    (cond
-    (isStep 8 step)
-    (isWord t site slot step)
-    (cond
-    (isStep 11 step)
-    (eqb (slotOf (m .handle)) slot && eqb (m .destination % 8) site && (carriesCommit (m .body) || asksTerminate (m .body)))
-    (isStep 14 step && (eqb (flatOf step .a % 8) site && losesHome (flatOf step .a) (passageAt t slot)))))
-
--- whether an accepted step of the list does
-unfoldable pub letOffIn : Tables → ℕ → ℕ → List Step → Bool
-letOffIn t site slot [] = false
-letOffIn t site slot (x ∷ xs) =
-    (isAccepted (stepOf t x .answer) && letsOff t site slot x) || letOffIn (stepOf t x .tables) site slot xs
+use Rattle.runs.specs.Promises.Definitions.{Promised, letsOff, letOffIn, StandsFrom}
 
 -- ---- what a decision leaves of its visit
 
@@ -270,11 +245,6 @@ module _ (s p : ℕ) (slot : p < 16) where
       (λ x y. record { there = y .0 .0; prepared = y .0 .1 })
 
 -- ---- runs
-
--- what stands of a promise from one moment to another: the visit with its mark, and every object that the passage holds at the site
-pub record StandsFrom (t u : Tables) (site slot : ℕ) : Type 0 where
-  pub promised : Promised u site slot
-  pub objects : (k : ℕ) → objectSite k ≡ site → isHolding t slot k ≡ true → isHolding u slot k ≡ true
 
 module _ {t₀ : Tables} (fresh : Started t₀) (s p : ℕ) (slot : p < 16) where
   -- in a run the slot of a visit is in use

@@ -20,7 +20,7 @@ use Rattle.rules.specs.Rounds.{refreshOf, terminateOf, prepareOf, openOf, openD
 use Rattle.rules.specs.Calls.{invokeOf, invokeDone, dropOf, dropDone}
 use Rattle.rules.specs.Machine.{lookOf, placesOf, seenOf, remains, decideOf, headOf, tripPlaces, turnSeen, turnOf, foundOf}
 use Rattle.rules.specs.Runs.{Started, start-started, runOf}
-use Rattle.runs.specs.Types.{Kind, Passage, Body, Tables, Step, Places, Seen, Outcome}
+use Rattle.runs.specs.Types.{Kind, Passage, Body, Tables, Step, Outcome}
 use Rattle.rules.specs.declared.looking.Trip.{Trip}
 use Rattle.runs.specs.Walk.Plain.{repeat-has}
 use Rattle.runs.specs.Times.View.{Ledger, mailOf, viewOf, noLedger}
@@ -34,17 +34,10 @@ use Rattle.runs.specs.Fits.Mail.{fitting-after-ask, fitting-after-tell}
 use Rattle.runs.specs.Fits.Close.{fitting-after-close}
 use Rattle.runs.specs.Fits.Invoke.{fitting-after-invoke}
 use Rattle.runs.specs.Fits.Deliver.{fitting-after-deliver}
-use Rattle.runs.specs.Walk.Steps.{ghostRun, good-after-run}
+use Rattle.runs.specs.Walk.Steps.{placesAt, seenAt, ghostRun, good-after-run}
 use Rattle.runs.specs.Walk.Sound.{Sound, sound-head, sound-turn, sound-started}
 
 -- ---- the ledgers after a run
-
--- where a step looks, and what it sees there
-abbrev pub placesAt : Tables → Step → Places
-placesAt t step = placesOf t (lookOf step)
-
-abbrev pub seenAt : Tables → Step → Seen
-seenAt t step = seenOf t (placesAt t step)
 
 abbrev pub headLedgers : Tables → Step → (ℕ → Ledger) → ℕ → Ledger
 headLedgers t step ls =

@@ -9,14 +9,22 @@ use mathlib.Core.List.{List, [], _∷_, _++_}
 use Rattle.rules.specs.LoopsLaws.{either}
 use Rattle.rules.specs.Answers.{isAccepted}
 use Rattle.rules.specs.Ranges.{inRange}
-use Rattle.rules.specs.Machine.{lookOf, headOf, turnOf, turnsUpTo, turnCount, stepInRangeOf, refusedAll, stepOf}
+use Rattle.rules.specs.Machine.{lookOf, placesOf, seenOf, headOf, turnOf, turnsUpTo, turnCount, stepInRangeOf, refusedAll, stepOf}
 use Rattle.rules.specs.RangesKept.{turn-count-most}
 use Rattle.rules.specs.RefusedLaws.{refused-leaves, turns-keep, record-is-step}
 use Rattle.rules.specs.Record.{stepOfRecord, readingOf, recordInRangeOf, stepRecordOf}
 use Rattle.rules.specs.Runs.{runOf, runRecordsOf}
-use Rattle.runs.specs.Types.{Tables, Step, Outcome}
+use Rattle.runs.specs.Types.{Tables, Step, Places, Seen, Outcome}
 use Rattle.rules.specs.declared.looking.Trip.{Trip}
 use Rattle.rules.specs.declared.steps.Reading.{Reading}
+
+-- ---- where a step looks, and what it sees there
+
+abbrev pub placesAt : Tables → Step → Places
+placesAt t step = placesOf t (lookOf step)
+
+abbrev pub seenAt : Tables → Step → Seen
+seenAt t step = seenOf t (placesAt t step)
 
 -- ---- a ghost along a run: what an accepted step's own store does to it, and what each slot's turn does
 
