@@ -14,7 +14,7 @@ use lib.Seq.{drop-cons, drop-length, take-suc, getD-drop}
 use Rattle.rules.specs.LoopsLaws.{either}
 use Rattle.words.specs.declared.scan.Mode.{Mode}
 use Rattle.words.specs.declared.scan.Scan.{Scan}
-use Rattle.lines.specs.Text.{Puts, put-none, put-one, put-both}
+use Rattle.buffer.specs.Text.{Puts, put-none, put-one, put-both}
 use Rattle.words.specs.Scan.{isSpace, isHash, endOf, scanNext, scanAll}
 use Rattle.words.specs.LineLaws.{past-none}
 use Rattle.words.specs.Faults.{linesPast, upToNewline, fromBy, faultFrom, noWord, shownByte, shownUpTo}

@@ -1,16 +1,16 @@
 // What was expected, read off the grammar's two tables.
+use buffer::put_letters;
+use buffer::put_text;
 use grammar::edge_of;
 use grammar::may_end;
 use grammar::slot_at;
-use texts::put_letters;
-use texts::put_text;
 use words::rows::EDGE_COUNT;
 use words::rows::RAW_NODE;
 ghost use Prim.Native.Nat.{_+_, _≤_, _<_};
 ghost use mathlib.Core.Path.{_≡_};
 ghost use lib.ListN.{length};
 ghost use Rattle.rules.specs.Loops.{oneIf};
-ghost use Rattle.lines.specs.Text.{Puts};
+ghost use Rattle.buffer.specs.Text.{Puts};
 ghost use Rattle.words.specs.Faults.{choicesUpTo, choiceCount, separator, choiceText, choicesText, nothingText, expectedAt};
 
 // One more, if it is one.

@@ -5,7 +5,7 @@ use mathlib.Core.Path.{_≡_, sym, ap, _∙_}
 use mathlib.Core.List.{List, _++_}
 use Rattle.rules.specs.Answers.{answerNumber, answerValue}
 use Rattle.rules.specs.Listing.{printedUpTo, lineOf}
-use Rattle.lines.specs.Text.{numbersLine}
+use Rattle.buffer.specs.Text.{numbersLine}
 use Rattle.running.specs.Answered.{answerAt}
 
 line-next :

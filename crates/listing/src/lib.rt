@@ -1,6 +1,6 @@
 // A whole sheet run into a buffer of lines: each record from the start, one line each, or the one line of a refused sheet.
-use lines::put_line;
-use lines::put_sheet_line;
+use buffer::put_line;
+use buffer::put_sheet_line;
 use rules::steps::SheetAnswer;
 use running::run;
 use sheet::sheet_answer;
@@ -8,7 +8,7 @@ use sheet::sheet_number;
 use sheet::sheet_records;
 ghost use Prim.Native.Nat.{_*_, _≤_};
 ghost use lib.ListN.{length};
-ghost use Rattle.lines.specs.Text.{Puts};
+ghost use Rattle.buffer.specs.Text.{Puts};
 ghost use Rattle.running.specs.Answered.{Holds};
 ghost use Rattle.rules.specs.Listing.{printedUpTo, listingOf};
 

@@ -9,7 +9,7 @@ use lib.ListN.{length, getD, List·getD-eq-default}
 use Rattle.words.specs.declared.scan.Fault.{Fault}
 use Rattle.words.specs.declared.scan.Stop.{Stop}
 use Rattle.words.specs.declared.scan.Reader.{Reader}
-use Rattle.lines.specs.Text.{Puts}
+use Rattle.buffer.specs.Text.{Puts}
 use Rattle.words.specs.Scan.{textRead}
 use Rattle.words.specs.Faults.{lineBehind, faultLine}
 use Rattle.words.specs.Sheets.{trailerOf, answerText, unmarked}

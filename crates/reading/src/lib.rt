@@ -5,15 +5,15 @@ mod reader;
 use crate::reader::gives_record;
 use crate::reader::reader_next;
 use crate::reader::unread;
+use buffer::put_text;
 use faults::named::put_fault_line;
 use scanning::line::end_of;
-use texts::put_text;
 use words::scan::Reader;
 use words::scan::Stop;
 ghost use Prim.Native.Nat.{_+_, _*_, _≤_, _<_};
 ghost use mathlib.Core.Path.{_≡_};
 ghost use lib.ListN.{length};
-ghost use Rattle.lines.specs.Text.{Puts};
+ghost use Rattle.buffer.specs.Text.{Puts};
 ghost use Rattle.words.specs.Scan.{readerNext, given, textRead};
 ghost use Rattle.words.specs.Sheets.{trailerOf, answerText, unmarked, sheetText};
 

@@ -19,7 +19,7 @@ use Rattle.rules.specs.Machine.{lowestEmpty, placesOf, remains, decideOf
 use Rattle.rules.specs.Record.{stepOfFields, stepOfRecord, recordOfStep, recordInRangeOf, stepRecordOf}
 use Rattle.rules.specs.Runs.{recordAnswersOf, runRecordsOf}
 use Rattle.rules.specs.Sheet.{sheetAnswer, sheetRecords}
-use Rattle.rules.specs.Listing.{digitsOf, lineOf, printedUpTo, listingOf}
+use Rattle.rules.specs.Listing.{spelt, lineOf, printedUpTo, listingOf}
 
 -- what a row says of the tables: the clock of a site, the value of an object
 pub data Fact : Type 0 where
@@ -55,7 +55,7 @@ factWanted (clock s n) = n
 factWanted (width k n) = n
 
 pub found : Row → List ℕ
-unfolding start everyUpTo someUpTo sumUpTo mostUpTo firstUpTo countsInRange roundInRange inRange firstOf sentTo isClosed largestQuiesce answerCount tickOf sweepOf sweptSlot crashOf crashedSlot recoverOf beginOf abortOf retireOf openOf refreshOf terminateOf prepareOf askOf closeOf tellOf invokeOf emptyOf deliverCallOf deliverPhaseOneOf deliverPhaseTwoOf deliverAnswerOf deliverBodyOf dropOf lowestEmpty placesOf remains decideOf stored headOf turnOf turnsUpTo stepInRangeOf stepOf stepOfFields stepOfRecord recordOfStep recordInRangeOf stepRecordOf recordAnswersOf runRecordsOf sheetAnswer sheetRecords digitsOf lineOf printedUpTo listingOf
+unfolding start everyUpTo someUpTo sumUpTo mostUpTo firstUpTo countsInRange roundInRange inRange firstOf sentTo isClosed largestQuiesce answerCount tickOf sweepOf sweptSlot crashOf crashedSlot recoverOf beginOf abortOf retireOf openOf refreshOf terminateOf prepareOf askOf closeOf tellOf invokeOf emptyOf deliverCallOf deliverPhaseOneOf deliverPhaseTwoOf deliverAnswerOf deliverBodyOf dropOf lowestEmpty placesOf remains decideOf stored headOf turnOf turnsUpTo stepInRangeOf stepOf stepOfFields stepOfRecord recordOfStep recordInRangeOf stepRecordOf recordAnswersOf runRecordsOf sheetAnswer sheetRecords spelt lineOf printedUpTo listingOf
 found (run records says facts) =
     joined (map answerPair (recordAnswersOf start records)) ++ map (factFound (runRecordsOf start records)) facts
 found (sheet bytes listing) = listingOf bytes

@@ -40,4 +40,5 @@ pub mod Views
 pub mod Sheet
 pub mod SheetLaws
 pub mod Listing
+pub mod ListingLaws
 pub mod Cases

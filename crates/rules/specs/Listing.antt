@@ -11,12 +11,17 @@ use Rattle.rules.specs.Answers.{answerNumber, answerValue}
 use Rattle.rules.specs.Record.{stepRecordOf}
 use Rattle.rules.specs.Sheet.{sheetAnswer, sheetNumber, sheetRecords, recordAt}
 
+-- a number in a base, its highest sign first, of which there are at most `left`
+-- the sign of 0 has the code `first`, the sign of 1 the next one, and so on
+unfoldable pub spelt : (base first left n : ℕ) → List ℕ
+spelt base first zero n = []
+spelt base first (suc left) n =
+    let front : List ℕ = spelt base first left (n / base) in
+    cond (ltb n base) ((first + n) ∷ []) (front ++ ((first + n % base) ∷ []))
+
 -- a number in decimal digits, of which there are at most k
-unfoldable pub digitsOf : ℕ → ℕ → List ℕ
-digitsOf zero n = []
-digitsOf (suc k) n =
-    let front : List ℕ = digitsOf k (n / 10) in
-    cond (ltb n 10) ((48 + n) ∷ []) (front ++ ((48 + n % 10) ∷ []))
+abbrev pub digitsOf : ℕ → ℕ → List ℕ
+digitsOf k n = spelt 10 48 k n
 
 -- twenty digits are enough for any number below 10 ^ 20, and so for any of 64 bits
 abbrev pub decimalOf : ℕ → List ℕ

@@ -16,7 +16,7 @@ use Rattle.rules.specs.Record.{stepOfRecord, readingOf, recordInRangeOf, stepRe
 use Rattle.rules.specs.Sheet.{recordAt}
 use Rattle.rules.specs.Answers.{answerNumber, answerValue}
 use Rattle.rules.specs.Listing.{printedUpTo}
-use Rattle.lines.specs.Text.{Puts, put-one, put-both}
+use Rattle.buffer.specs.Text.{Puts, put-one, put-both}
 use Rattle.running.specs.Answered.{answerAt, answeredUpTo}
 
 -- on tables in range number 20 is not met

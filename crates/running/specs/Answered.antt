@@ -12,7 +12,7 @@ use Rattle.rules.specs.Answers.{answerNumber, answerValue}
 use Rattle.rules.specs.Record.{stepRecordOf}
 use Rattle.rules.specs.Sheet.{recordAt}
 use Rattle.rules.specs.Listing.{printedUpTo}
-use Rattle.lines.specs.Text.{Puts}
+use Rattle.buffer.specs.Text.{Puts}
 
 -- the answer of record i, from 0, on the tables that the records before it leave
 abbrev pub answerAt : List ℕ → ℕ → Answer

@@ -23,7 +23,7 @@ ghost use Prim.Native.Nat.{_+_, _*_, _≤_};
 ghost use mathlib.Core.List.{[], _∷_};
 ghost use lib.ListN.{length};
 ghost use Rattle.rules.specs.Answers.{answerNumber, answerValue};
-ghost use Rattle.lines.specs.Text.{Puts};
+ghost use Rattle.buffer.specs.Text.{Puts};
 ghost use Rattle.running.specs.Answered.{answeredUpTo};
 
 // The answer of a record, as two numbers: a refusal has its number and value 0, an accepted step number 0 and its value.

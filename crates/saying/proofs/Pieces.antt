@@ -9,7 +9,7 @@ use lib.Seq.{take-suc}
 use Rattle.words.specs.declared.tokens.Piece.{Piece}
 use Rattle.words.specs.Say.{pieceToken, tokenText, restText, hexText}
 use Rattle.words.specs.TextLaws.{token-length, rest-more, hex-more}
-use Rattle.lines.specs.Text.{Puts, put-both}
+use Rattle.buffer.specs.Text.{Puts, put-both}
 
 tokens-more : (ps : List Piece) (p : Piece) → map pieceToken (ps ++ (p ∷ [])) ≡ map pieceToken ps ++ (pieceToken p ∷ [])
 tokens-more [] p = refl

@@ -1,17 +1,17 @@
 // The line of a record.
 use crate::tokens::tokens_of;
-use lines::put_byte;
-use lines::put_digits;
+use buffer::put_byte;
+use buffer::put_digits;
+use buffer::put_letters;
 use records::read_record;
 use rules::steps::Reading;
 use rules::steps::Step;
-use texts::put_letters;
 use words::tokens::Piece;
 ghost use Prim.Native.Nat.{_+_, _*_, _≤_, _<_};
 ghost use mathlib.Core.List.{[], _∷_, map};
 ghost use mathlib.Core.Path.{_≡_};
 ghost use lib.ListN.{length, take};
-ghost use Rattle.lines.specs.Text.{Puts};
+ghost use Rattle.buffer.specs.Text.{Puts};
 ghost use Rattle.words.specs.Say.{pieceToken, tokenText, restText, stepText, hexDigit, hexText, rawText, recordText};
 
 // A space, and a word or a number.

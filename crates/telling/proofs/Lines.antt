@@ -8,7 +8,7 @@ use lib.ListN.{length}
 use Rattle.rules.specs.Answers.{answerNumber, answerValue}
 use Rattle.rules.specs.RecordLaws.{Bytes16}
 use Rattle.rules.specs.Sheet.{recordAt}
-use Rattle.lines.specs.Text.{Puts, put-both}
+use Rattle.buffer.specs.Text.{Puts, put-both}
 use Rattle.words.specs.Say.{recordText}
 use Rattle.words.specs.Tell.{toldUpTo, plainUpTo}
 use Rattle.running.specs.Answered.{answerAt}

@@ -10,7 +10,7 @@ use denote.Struct.Field.{Field}
 use denote.Enum.Declared.{Choice}
 use Rattle.rules.specs.declared.outcomes.Answer.{Answer}
 use Rattle.rules.specs.declared.outcomes.Refusal.{Refusal}
-use Rattle.rules.proofs.answers.Refusal.{parts, as-values, make, eta}
+use Rattle.rules.proofs.outcomes.Refusal.{parts, as-values, make, eta}
 use Rattle.rules.specs.Answers.{refusalNumber, answerNumber, answerValue}
 use Rattle.rules.specs.LoopsLaws.{and-left, and-right, not-true}
 use Rattle.words.specs.Tell.{refusalPhrases, refusalPhrase, answerTold, toldLine}

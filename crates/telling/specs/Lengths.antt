@@ -12,13 +12,14 @@ use lib.Seq.{getD-take, getD-drop}
 use Rattle.rules.specs.declared.steps.Step.{Step}
 use Rattle.rules.specs.declared.steps.Reading.{Reading}
 use Rattle.rules.specs.declared.steps.SheetAnswer.{SheetAnswer}
-use Rattle.rules.specs.Listing.{digitsOf, decimalOf}
+use Rattle.rules.specs.Listing.{spelt, digitsOf, decimalOf}
+use Rattle.rules.specs.ListingLaws.{digits-length}
 use Rattle.rules.specs.LoopsLaws.{either, cond-keeps}
 use Rattle.rules.specs.Record.{stepOfRecord}
 use Rattle.rules.specs.RecordLaws.{each-at, Bytes16, StepFits, read-fits}
 use Rattle.rules.specs.Sheet.{recordAt}
-use Rattle.words.specs.Say.{Token, lettersOf, writeTokens, readTokens, readValueTokens, otherTokens, operationTokens, restText, stepText, rawText, recordBy, recordText}
-use Rattle.words.specs.TextLaws.{cond-length, digits-length, hex-length}
+use Rattle.words.specs.Say.{Token, writeTokens, readTokens, readValueTokens, otherTokens, operationTokens, restText, stepText, rawText, recordBy, recordText}
+use Rattle.words.specs.TextLaws.{cond-length, hex-length}
 use Rattle.words.specs.Tell.{refusalPhrases, sheetPhrase, acceptedTold, refusedTold}
 use Rattle.telling.specs.Numbers.{numbersTold, numbersLine}
 
@@ -30,7 +31,7 @@ tenTo (suc m) = 10 * tenTo m
 
 -- a number below ten to the m + 1 has at most m + 1 digits
 pub digits-few : (k m n : ℕ) → n < 10 * tenTo m → length (digitsOf k n) ≤ suc m
-unfolding digitsOf
+unfolding spelt
 digits-few zero m n h = omega arith
 digits-few (suc k) zero n h = rw (lt-ltb n 10 (omega arith)) (omega arith)
 digits-few (suc k) (suc m) n h =
@@ -54,7 +55,7 @@ rest-cond = cond-keeps (λ (x : List Token). length (restText x) ≤ 42)
 
 -- what an invoke says after its site
 operation-length : (write object value : ℕ) → write < 256 → object < 256 → length (restText (operationTokens write object value)) ≤ 42
-unfolding lettersOf
+unfolding spelt
 operation-length write object value hw ho =
     let d : length (digitsOf 10 write) ≤ 3 = byte-digits write hw in
     let o : length (digitsOf 10 object) ≤ 3 = byte-digits object ho in
@@ -65,7 +66,7 @@ operation-length write object value hw ho =
     (simp (length-append) (omega (arith, d, o, v))))
 
 pub step-short : (s : Step) → StepFits s → length (stepText s) ≤ 66
-unfolding stepText lettersOf
+unfolding stepText spelt
 step-short (Step.Tick site n) w = simp (length-append) (omega (arith, digits-length 10 site, digits-length 10 n))
 step-short (Step.Begin home slot q r) w =
     simp (length-append) (omega (arith, byte-digits home (w .a), byte-digits slot (w .b), digits-length 10 q, digits-length 10 r))
@@ -87,7 +88,7 @@ step-short (Step.Recover site) w = simp (length-append) (omega (arith, digits-le
 step-short (Step.Retire h) w = simp (length-append) (omega (arith, digits-length 10 h))
 
 raw-short : (b : List ℕ) → length b ≡ 16 → length (rawText b) ≤ 66
-unfolding rawText lettersOf
+unfolding rawText spelt
 raw-short b e = omega (arith, hex-length b, e)
 
 by-short : (r : Reading) (b : List ℕ) → Bytes16 b → stepOfRecord b ≡ r → length (recordBy r b) ≤ 66
@@ -114,7 +115,7 @@ accepted-length v = omega (arith, digits-length 20 v)
 
 -- computed at each place that has a phrase
 phrase-told : (n : ℕ) → n < length refusalPhrases → length (refusedTold n) ≤ 56
-unfolding refusalPhrases digitsOf
+unfolding refusalPhrases spelt
 phrase-told n h = each-at (λ k. length (refusedTold k) ≤ 56) (length refusalPhrases) (omega arith) n h
 
 -- past them there is a number alone

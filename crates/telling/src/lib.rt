@@ -1,7 +1,8 @@
 // What passread prints, put into the caller's buffer.
 // Each function equals its definition in words' specs/Tell.antt, or in specs/Numbers.antt, where an answer goes by its numbers.
-use lines::put_byte;
-use lines::put_digits;
+use buffer::put_byte;
+use buffer::put_digits;
+use buffer::put_text;
 use rules::steps::SheetAnswer;
 use running::run;
 use saying::line::put_record;
@@ -9,11 +10,10 @@ use sheet::record_at;
 use sheet::sheet_answer;
 use sheet::sheet_number;
 use sheet::sheet_records;
-use texts::put_text;
 ghost use Prim.Native.Nat.{_+_, _*_, _≤_};
 ghost use mathlib.Core.Path.{_≡_};
 ghost use lib.ListN.{length, take};
-ghost use Rattle.lines.specs.Text.{Puts};
+ghost use Rattle.buffer.specs.Text.{Puts};
 ghost use Rattle.words.specs.Say.{recordText};
 ghost use Rattle.words.specs.Tell.{refusalPhrase, acceptedTold, refusedTold, sheetPhrase, refusedSheet, toldUpTo, plainUpTo, toldOf, plainOf};
 ghost use Rattle.running.specs.Answered.{Holds};

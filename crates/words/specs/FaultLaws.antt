@@ -10,12 +10,12 @@ use borrow.Author.Tests.{eqb-true}
 use lib.Dec.{ltb, eqb}
 use lib.ListN.{take}
 use Rattle.rules.specs.Loops.{sumUpTo, firstUpTo}
-use Rattle.rules.specs.Listing.{digitsOf, decimalOf}
+use Rattle.rules.specs.Listing.{spelt, decimalOf}
 use Rattle.rules.specs.LoopsLaws.{either, cond-keeps}
 use Rattle.words.specs.Types.{Fault, Mode, Scan}
 use Rattle.words.specs.Grammar.{edgeCount, edgeOf, edgeAt, slotAt, mostIn, rawNode}
 use Rattle.words.specs.Scan.{isSpace, isHash, isLetter, isDigit, at, blank, wrong, misplaced, followed, wordTaken, filled, numberTaken, endBy, endOf, notedBy, lettered, numbered, nextBy, scanNext, scanAll, readerNext, givesRecord, given, readNext, readAll, textRead}
-use Rattle.words.specs.Say.{textBytes, lettersOf}
+use Rattle.words.specs.Say.{textBytes}
 use Rattle.words.specs.Faults.{fromBy, faultFrom, faultIn, noWord, shownByte, shownUpTo, choicesUpTo, choicesText, expectedAt, placeIn, linesPast, upToNewline, faultLine}
 use Rattle.words.specs.Sheets.{answerText, unmarked, sheetText}
 use Rattle.words.specs.Spelling.{end-again, space-ends, hash-ends, wrong-stays}
@@ -47,7 +47,7 @@ pub expected-everywhere :
     -- raw
     ∷ "32 hex digits"
     ∷ [])
-unfolding expectedAt choicesText choicesUpTo sumUpTo lettersOf
+unfolding expectedAt choicesText choicesUpTo sumUpTo spelt
 expected-everywhere = refl
 
 -- ---- the forms, each of a text's third line
@@ -68,7 +68,7 @@ pub forms :
     ∷ "line 3: missing field, home expected"
     ∷ "line 3: missing field, a number expected"
     ∷ [])
-unfolding sheetText unmarked answerText textRead readAll readNext readerNext givesRecord given scanNext wordTaken edgeAt firstUpTo numberTaken faultLine digitsOf linesPast upToNewline faultFrom scanAll shownUpTo expectedAt choicesText choicesUpTo sumUpTo lettersOf
+unfolding sheetText unmarked answerText textRead readAll readNext readerNext givesRecord given scanNext wordTaken edgeAt firstUpTo numberTaken faultLine spelt linesPast upToNewline faultFrom scanAll shownUpTo expectedAt choicesText choicesUpTo sumUpTo
 forms = refl
 
 -- ---- where the fault fell

@@ -12,10 +12,11 @@ use lib.Seq.{append-snoc, set-at, getD-at}
 use Rattle.rules.specs.Loops.{firstUpTo}
 use Rattle.rules.specs.Record.{stepOfRecord}
 use Rattle.rules.specs.RecordLaws.{Each, each-at, Bytes16, read-writes, read-fits}
+use Rattle.rules.specs.Listing.{spelt}
 use Rattle.words.specs.Types.{Mode, Scan, Reading}
 use Rattle.words.specs.Grammar.{edgeAt}
 use Rattle.words.specs.Scan.{at, blank, wordTaken, scanNext, scanAll}
-use Rattle.words.specs.Say.{lettersOf, stepText, hexDigit, hexText, rawText, recordBy, recordText}
+use Rattle.words.specs.Say.{stepText, hexDigit, hexText, rawText, recordBy, recordText}
 use Rattle.words.specs.StepLaws.{Says, step-says}
 
 -- ---- hex digits
@@ -89,7 +90,7 @@ hex-read (x ∷ xs) front n long room all =
     (hex-read xs (front ++ (x ∷ [])) (n + 1) longer (omega arith) (all .1))
 
 raw-scan : (b : List ℕ) → Bytes16 b → scanAll blank (rawText b) ≡ at Mode.Gap 0 30 32 b
-unfolding scanNext scanAll lettersOf edgeAt firstUpTo wordTaken rawText
+unfolding scanNext scanAll spelt edgeAt firstUpTo wordTaken rawText
 raw-scan b w =
     let sixteen : length b ≡ 16 = w .sixteen in
     let all : AllBytes b = bytes-all b (λ i l. w .byte i (omega arith)) in

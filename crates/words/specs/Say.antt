@@ -1,5 +1,5 @@
 -- The writer: the words of a step, the line of a record, the text of a list of records. Assumes nothing.
-use Prim.Native.Nat.{ℕ, zero, suc, _+_, _/_, _%_, _≤_}
+use Prim.Native.Nat.{ℕ, _+_, _/_, _%_, _≤_}
 use Prim.Native.Char.{code}
 use Prim.Native.String.{String, [] as no-more, _∷_ as _then_}
 use mathlib.Core.Bool.{cond}
@@ -7,7 +7,7 @@ use mathlib.Core.Path.{_≡_}
 use mathlib.Core.List.{List, [], _∷_, _++_, map}
 use lib.ListN.{take}
 use lib.Dec.{ltb, eqb}
-use Rattle.rules.specs.Listing.{digitsOf}
+use Rattle.rules.specs.Listing.{spelt, digitsOf}
 use Rattle.rules.specs.Record.{stepOfRecord}
 use Rattle.words.specs.Types.{Step, Reading, Piece, Tokens}
 use Rattle.words.specs.Grammar.{tickWord, beginWord, invokeWord, refreshWord, terminateWord, prepareWord, askWord, closeWord, tellWord, abortWord, deliverWord, dropWord, sweepWord, crashWord, recoverWord, retireWord, rawWord, byWord, homeWord, slotWord, quiesceWord, releaseWord, atWord, readWord, writeWord, operationWord, objectWord, valueWord}
@@ -18,11 +18,8 @@ textBytes no-more = []
 textBytes (letter then more) = code letter ∷ textBytes more
 
 -- a word's letters, of which there are at most k
-unfoldable pub lettersOf : ℕ → ℕ → List ℕ
-lettersOf zero w = []
-lettersOf (suc k) w =
-    let front : List ℕ = lettersOf k (w / 32) in
-    cond (ltb w 32) ((96 + w) ∷ []) (front ++ ((96 + w % 32) ∷ []))
+abbrev pub lettersOf : ℕ → ℕ → List ℕ
+lettersOf k w = spelt 32 96 k w
 
 -- what a line is made of
 pub data Token : Type 0 where

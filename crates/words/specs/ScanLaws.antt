@@ -9,7 +9,7 @@ use borrow.Author.Tests.{ltb-true, ltb-false, lt-ltb, le-ltb}
 use lib.Dec.{ltb, eqb}
 use Rattle.rules.specs.LoopsLaws.{either}
 use Rattle.rules.specs.RecordLaws.{Each, each-at}
-use Rattle.rules.specs.Listing.{digitsOf}
+use Rattle.rules.specs.Listing.{spelt, digitsOf}
 use Rattle.words.specs.Types.{Mode, Scan}
 use Rattle.words.specs.Grammar.{edgeCount, edgeOf, edgeAt, slotAt, mostIn, rawNode, said, stored}
 use Rattle.words.specs.Scan.{at, wordTaken, numberTaken, endOf, scanNext, scanAll}
@@ -56,7 +56,7 @@ module _ (node digits : ℕ) (bytes : List ℕ) (plain : eqb node rawNode ≡ fa
   digits-read :
       (k n : ℕ) → n < 10 ^ suc k → n ≤ 4294967295
       → scanAll (at Mode.Gap 0 node digits bytes) (digitsOf (suc k) n) ≡ at Mode.Number n node digits bytes
-  unfolding digitsOf scanAll
+  unfolding spelt scanAll
   digits-read zero n l m = rw (lt-ltb n 10 (omega arith)) (digit-first n (omega arith))
   digits-read (suc k) n l m =
       ⊎-elim

@@ -5,10 +5,11 @@ use mathlib.Core.Bool.{Bool, true, cond}
 use mathlib.Core.List.{List, [], _∷_}
 use lib.Dec.{ltb, eqb}
 use Rattle.rules.specs.LoopsLaws.{cond-keeps}
+use Rattle.rules.specs.Listing.{spelt}
 use Rattle.words.specs.Types.{Fault, Mode, Scan}
 use Rattle.words.specs.Grammar.{tickWord, beginWord, invokeWord, refreshWord, terminateWord, prepareWord, askWord, closeWord, tellWord, abortWord, deliverWord, dropWord, sweepWord, crashWord, recoverWord, retireWord, rawWord, byWord, homeWord, slotWord, quiesceWord, releaseWord, atWord, readWord, writeWord, operationWord, objectWord, valueWord, edgeCount, edgeOf, edgeAt, slotAt, mostIn}
 use Rattle.words.specs.Scan.{isSpace, followed, misplaced, wordTaken, filled, numberTaken, endBy, endOf, notedBy, noted, nextBy, scanNext, scanAll, verdictBy, verdictOf}
-use Rattle.words.specs.Say.{lettersOf, wordText}
+use Rattle.words.specs.Say.{wordText}
 
 -- ---- the spelling of each word
 
@@ -17,7 +18,7 @@ pub words-spelled :
     (wordText tickWord ∷ wordText beginWord ∷ wordText invokeWord ∷ wordText refreshWord ∷ wordText terminateWord ∷ wordText prepareWord ∷ wordText askWord ∷ wordText closeWord ∷ wordText tellWord ∷ wordText abortWord ∷ wordText deliverWord ∷ wordText dropWord ∷ wordText sweepWord ∷ wordText crashWord ∷ wordText recoverWord ∷ wordText retireWord ∷ wordText rawWord ∷ wordText byWord ∷ wordText homeWord ∷ wordText slotWord ∷ wordText quiesceWord ∷ wordText releaseWord ∷ wordText atWord ∷ wordText readWord ∷ wordText writeWord ∷ wordText operationWord ∷ wordText objectWord ∷ wordText valueWord ∷ [])
     -- in ASCII: tick, begin, invoke, refresh, terminate, prepare, ask, close, tell, abort, deliver, drop, sweep, crash, recover, retire, raw, by, home, slot, quiesce, release, at, read, write, operation, object, value
     ((116 ∷ 105 ∷ 99 ∷ 107 ∷ []) ∷ (98 ∷ 101 ∷ 103 ∷ 105 ∷ 110 ∷ []) ∷ (105 ∷ 110 ∷ 118 ∷ 111 ∷ 107 ∷ 101 ∷ []) ∷ (114 ∷ 101 ∷ 102 ∷ 114 ∷ 101 ∷ 115 ∷ 104 ∷ []) ∷ (116 ∷ 101 ∷ 114 ∷ 109 ∷ 105 ∷ 110 ∷ 97 ∷ 116 ∷ 101 ∷ []) ∷ (112 ∷ 114 ∷ 101 ∷ 112 ∷ 97 ∷ 114 ∷ 101 ∷ []) ∷ (97 ∷ 115 ∷ 107 ∷ []) ∷ (99 ∷ 108 ∷ 111 ∷ 115 ∷ 101 ∷ []) ∷ (116 ∷ 101 ∷ 108 ∷ 108 ∷ []) ∷ (97 ∷ 98 ∷ 111 ∷ 114 ∷ 116 ∷ []) ∷ (100 ∷ 101 ∷ 108 ∷ 105 ∷ 118 ∷ 101 ∷ 114 ∷ []) ∷ (100 ∷ 114 ∷ 111 ∷ 112 ∷ []) ∷ (115 ∷ 119 ∷ 101 ∷ 101 ∷ 112 ∷ []) ∷ (99 ∷ 114 ∷ 97 ∷ 115 ∷ 104 ∷ []) ∷ (114 ∷ 101 ∷ 99 ∷ 111 ∷ 118 ∷ 101 ∷ 114 ∷ []) ∷ (114 ∷ 101 ∷ 116 ∷ 105 ∷ 114 ∷ 101 ∷ []) ∷ (114 ∷ 97 ∷ 119 ∷ []) ∷ (98 ∷ 121 ∷ []) ∷ (104 ∷ 111 ∷ 109 ∷ 101 ∷ []) ∷ (115 ∷ 108 ∷ 111 ∷ 116 ∷ []) ∷ (113 ∷ 117 ∷ 105 ∷ 101 ∷ 115 ∷ 99 ∷ 101 ∷ []) ∷ (114 ∷ 101 ∷ 108 ∷ 101 ∷ 97 ∷ 115 ∷ 101 ∷ []) ∷ (97 ∷ 116 ∷ []) ∷ (114 ∷ 101 ∷ 97 ∷ 100 ∷ []) ∷ (119 ∷ 114 ∷ 105 ∷ 116 ∷ 101 ∷ []) ∷ (111 ∷ 112 ∷ 101 ∷ 114 ∷ 97 ∷ 116 ∷ 105 ∷ 111 ∷ 110 ∷ []) ∷ (111 ∷ 98 ∷ 106 ∷ 101 ∷ 99 ∷ 116 ∷ []) ∷ (118 ∷ 97 ∷ 108 ∷ 117 ∷ 101 ∷ []) ∷ [])
-unfolding lettersOf
+unfolding spelt
 words-spelled = refl
 
 -- ---- any spacing

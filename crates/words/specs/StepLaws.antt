@@ -11,10 +11,11 @@ use Rattle.rules.specs.Loops.{firstUpTo}
 use Rattle.rules.specs.LoopsLaws.{either}
 use Rattle.rules.specs.Record.{stepOfRecord, recordOfStep}
 use Rattle.rules.specs.RecordLaws.{StepFits, written-reads}
+use Rattle.rules.specs.Listing.{spelt}
 use Rattle.words.specs.Types.{Mode, Verdict, Step, Reading}
 use Rattle.words.specs.Grammar.{edgeAt, invokeWord, atWord}
 use Rattle.words.specs.Scan.{at, blank, zeros, endOf, scanNext, scanAll, verdictOf}
-use Rattle.words.specs.Say.{Token, lettersOf, tokenText, restText, readValueTokens, otherTokens, firstWord, moreTokens, stepText}
+use Rattle.words.specs.Say.{Token, tokenText, restText, readValueTokens, otherTokens, firstWord, moreTokens, stepText}
 use Rattle.words.specs.ScanLaws.{Path, pathPlace, pathBytes, path-read}
 
 -- a line that says a record
@@ -34,13 +35,13 @@ path-says t ts bytes p e b = record { ends = rw (path-read ts t 0 zeros p) e; gi
 
 module _ (h site object value : ℕ) where
   write-says : StepFits (Step.Invoke h site 1 object value) → Says (stepText (Step.Invoke h site 1 object value)) (recordOfStep (Step.Invoke h site 1 object value))
-  unfolding scanNext scanAll lettersOf edgeAt firstUpTo stepText recordOfStep
+  unfolding scanNext scanAll spelt edgeAt firstUpTo stepText recordOfStep
   write-says w =
       path-says (Token.Word (firstWord (Step.Invoke h site 1 object value))) (moreTokens (Step.Invoke h site 1 object value)) (recordOfStep (Step.Invoke h site 1 object value))
       (record { text = λ _ _. refl; known = refl }, (record { plain = refl; taken = refl; fits = omega (arith, w .h) }, (record { text = λ _ _. refl; known = refl }, (record { plain = refl; taken = refl; fits = omega (arith, w .a) }, (record { text = λ _ _. refl; known = refl }, (record { text = λ _ _. refl; known = refl }, (record { plain = refl; taken = refl; fits = omega (arith, w .c) }, (record { text = λ _ _. refl; known = refl }, (record { plain = refl; taken = refl; fits = omega (arith, w .u) }, tt))))))))) refl refl
 
   bare-read-says : StepFits (Step.Invoke h site 0 object 0) → Says (stepText (Step.Invoke h site 0 object 0)) (recordOfStep (Step.Invoke h site 0 object 0))
-  unfolding scanNext scanAll lettersOf edgeAt firstUpTo stepText recordOfStep
+  unfolding scanNext scanAll spelt edgeAt firstUpTo stepText recordOfStep
   bare-read-says w =
       path-says (Token.Word (firstWord (Step.Invoke h site 0 object 0))) (moreTokens (Step.Invoke h site 0 object 0)) (recordOfStep (Step.Invoke h site 0 object 0))
       (record { text = λ _ _. refl; known = refl }, (record { plain = refl; taken = refl; fits = omega (arith, w .h) }, (record { text = λ _ _. refl; known = refl }, (record { plain = refl; taken = refl; fits = omega (arith, w .a) }, (record { text = λ _ _. refl; known = refl }, (record { text = λ _ _. refl; known = refl }, (record { plain = refl; taken = refl; fits = omega (arith, w .c) }, tt))))))) refl refl
@@ -49,7 +50,7 @@ module _ (h site object value : ℕ) where
       eqb value 0 ≡ false
       → StepFits (Step.Invoke h site 0 object value)
       → Says (stepText (Step.Invoke h site 0 object value)) (recordOfStep (Step.Invoke h site 0 object value))
-  unfolding scanNext scanAll lettersOf edgeAt firstUpTo stepText recordOfStep
+  unfolding scanNext scanAll spelt edgeAt firstUpTo stepText recordOfStep
   value-read-says e w =
       rw e
       (path-says (Token.Word invokeWord)
@@ -63,7 +64,7 @@ module _ (h site object value : ℕ) where
       → eqb write 0 ≡ false
       → StepFits (Step.Invoke h site write object value)
       → Says (stepText (Step.Invoke h site write object value)) (recordOfStep (Step.Invoke h site write object value))
-  unfolding scanNext scanAll lettersOf edgeAt firstUpTo stepText recordOfStep
+  unfolding scanNext scanAll spelt edgeAt firstUpTo stepText recordOfStep
   other-says write one nought w =
       rw (one, nought)
       (path-says (Token.Word invokeWord)
@@ -117,7 +118,7 @@ invoke-says h site write object value =
 -- ---- any step
 
 pub step-says : (s : Step) → StepFits s → Says (stepText s) (recordOfStep s)
-unfolding scanNext scanAll lettersOf edgeAt firstUpTo stepText recordOfStep
+unfolding scanNext scanAll spelt edgeAt firstUpTo stepText recordOfStep
 step-says (Step.Tick site n) w =
     path-says (Token.Word (firstWord (Step.Tick site n))) (moreTokens (Step.Tick site n)) (recordOfStep (Step.Tick site n))
     (record { text = λ _ _. refl; known = refl }, (record { plain = refl; taken = refl; fits = omega (arith, w .a) }, (record { text = λ _ _. refl; known = refl }, (record { plain = refl; taken = refl; fits = omega (arith, w .u) }, tt)))) refl refl

@@ -10,7 +10,8 @@ use borrow.Author.Tests.{lt-ltb, ne-eqb}
 use lib.Dec.{ltb, eqb}
 use lib.ListN.{length, length-append}
 use Rattle.rules.specs.LoopsLaws.{cond-keeps}
-use Rattle.rules.specs.Listing.{digitsOf}
+use Rattle.rules.specs.Listing.{spelt}
+use Rattle.rules.specs.ListingLaws.{spelt-length, digits-length}
 use Rattle.rules.specs.Record.{stepOfRecord}
 use Rattle.rules.specs.RecordLaws.{Bytes16}
 use Rattle.words.specs.Types.{Scan, Step, Reading}
@@ -34,23 +35,19 @@ plain-append (x ∷ xs) ys p q = (p .0, plain-append xs ys (p .1) q)
 plain-cond : (t : Bool) (xs ys : List ℕ) → Plain xs → Plain ys → Plain (cond t xs ys)
 plain-cond = cond-keeps Plain
 
-plain-digits : (k n : ℕ) → Plain (digitsOf k n)
-unfolding digitsOf
-plain-digits zero n = tt
-plain-digits (suc k) n =
-    plain-cond (ltb n 10) ((48 + n) ∷ []) (digitsOf k (n / 10) ++ ((48 + n % 10) ∷ [])) (omega arith, tt)
-    (plain-append (digitsOf k (n / 10)) ((48 + n % 10) ∷ []) (plain-digits k (n / 10)) (omega arith, tt))
+plain-spelt : (base first k n : ℕ) → 10 < first → Plain (spelt base first k n)
+unfolding spelt
+plain-spelt base first zero n h = tt
+plain-spelt base first (suc k) n h =
+    plain-cond (ltb n base) ((first + n) ∷ []) (spelt base first k (n / base) ++ ((first + n % base) ∷ [])) (omega arith, tt)
+    (plain-append (spelt base first k (n / base)) ((first + n % base) ∷ []) (plain-spelt base first k (n / base) h) (omega arith, tt))
 
-plain-letters : (k w : ℕ) → Plain (lettersOf k w)
-unfolding lettersOf
-plain-letters zero w = tt
-plain-letters (suc k) w =
-    plain-cond (ltb w 32) ((96 + w) ∷ []) (lettersOf k (w / 32) ++ ((96 + w % 32) ∷ [])) (omega arith, tt)
-    (plain-append (lettersOf k (w / 32)) ((96 + w % 32) ∷ []) (plain-letters k (w / 32)) (omega arith, tt))
+plain-word : (w : ℕ) → Plain (wordText w)
+plain-word w = plain-spelt 32 96 9 w (omega arith)
 
 plain-token : (t : Token) → Plain (tokenText t)
-plain-token (Token.Word w) = plain-letters 9 w
-plain-token (Token.Number n) = plain-digits 10 n
+plain-token (Token.Word w) = plain-word w
+plain-token (Token.Number n) = plain-spelt 10 48 10 n (omega arith)
 
 plain-rest : (ts : List Token) → Plain (restText ts)
 plain-rest [] = tt
@@ -68,9 +65,9 @@ plain-hex (x ∷ xs) =
 
 plain-by : (r : Reading) (b : List ℕ) → Plain (recordBy r b)
 unfolding stepText rawText
-plain-by Reading.Nothing b = plain-append (wordText rawWord) (32 ∷ hexText b) (plain-letters 9 rawWord) (omega arith, plain-hex b)
+plain-by Reading.Nothing b = plain-append (wordText rawWord) (32 ∷ hexText b) (plain-word rawWord) (omega arith, plain-hex b)
 plain-by (Reading.Known s) b =
-    plain-append (wordText (firstWord s)) (restText (moreTokens s)) (plain-letters 9 (firstWord s)) (plain-rest (moreTokens s))
+    plain-append (wordText (firstWord s)) (restText (moreTokens s)) (plain-word (firstWord s)) (plain-rest (moreTokens s))
 
 pub plain-record : (b : List ℕ) → Plain (recordText b)
 unfolding recordText
@@ -90,21 +87,8 @@ plain-one (x ∷ xs) p = (let past : 10 < x = p .0 in ne-eqb x 10 (λ e. omega a
 pub cond-length : {A : Type 0} (t : Bool) (xs ys : List A) (k : ℕ) → length xs ≤ k → length ys ≤ k → length (cond t xs ys) ≤ k
 cond-length t xs ys k = cond-keeps (λ zs. length zs ≤ k) t xs ys
 
-pub digits-length : (k n : ℕ) → length (digitsOf k n) ≤ k
-unfolding digitsOf
-digits-length zero n = omega arith
-digits-length (suc k) n =
-    let r : length (digitsOf k (n / 10)) ≤ k = digits-length k (n / 10) in
-    cond-length (ltb n 10) ((48 + n) ∷ []) (digitsOf k (n / 10) ++ ((48 + n % 10) ∷ [])) (suc k) (omega arith)
-    (rw (length-append (digitsOf k (n / 10))) (omega arith))
-
 pub letters-length : (k w : ℕ) → length (lettersOf k w) ≤ k
-unfolding lettersOf
-letters-length zero w = omega arith
-letters-length (suc k) w =
-    let r : length (lettersOf k (w / 32)) ≤ k = letters-length k (w / 32) in
-    cond-length (ltb w 32) ((96 + w) ∷ []) (lettersOf k (w / 32) ++ ((96 + w % 32) ∷ [])) (suc k) (omega arith)
-    (rw (length-append (lettersOf k (w / 32))) (omega arith))
+letters-length = spelt-length 32 96
 
 pub token-length : (t : Token) → length (tokenText t) ≤ 10
 token-length (Token.Word w) = let r : length (lettersOf 9 w) ≤ 9 = letters-length 9 w in omega arith

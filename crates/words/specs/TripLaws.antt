@@ -16,6 +16,7 @@ use Rattle.rules.specs.declared.steps.SheetAnswer.{SheetAnswer}
 use Rattle.rules.specs.Record.{stepOfRecord}
 use Rattle.rules.specs.Sheet.{trailerAt, distanceOf, sheetAnswer, sheetRecords, recordsUpTo}
 use Rattle.rules.specs.SheetLaws.{taken-whole, taken-length, records-sixteens}
+use Rattle.rules.specs.Listing.{spelt}
 use Rattle.words.specs.Types.{Reading}
 use Rattle.words.specs.Grammar.{rawWord}
 use Rattle.words.specs.Say.{Token, lettersOf, wordText, tokenText, restText, firstWord, moreTokens, stepText, hexText, rawText, recordBy, recordText, linesText}
@@ -28,7 +29,7 @@ use Rattle.words.specs.SheetsLaws.{records-count, records-are, part-read
 
 -- words start with a letter
 letters-first : (k w x : ℕ) (rest : List ℕ) → x < 128 → getD (lettersOf k w ++ (x ∷ rest)) 0 0 < 128
-unfolding lettersOf
+unfolding spelt
 letters-first zero w x rest h = h
 letters-first (suc k) w x rest h =
     ⊎-elim

@@ -5,7 +5,7 @@ use lib.ListN.{length}
 use Rattle.sheet.specs.Few.{taken-few}
 use Rattle.running.specs.Answered.{answers-held}
 use Rattle.rules.specs.Listing.{sheetLine, printedUpTo}
-use Rattle.lines.specs.Text.{sheet-line-length}
+use Rattle.buffer.specs.Text.{sheet-line-length}
 use Rattle.listing.proofs.Taken.{listing-taken, listing-refused}
 use borrow.Author.Needs.{needs}
 use Rattle.rules.specs.Listing.{listingOf}

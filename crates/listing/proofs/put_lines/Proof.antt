@@ -5,7 +5,7 @@ use mathlib.Core.Path.{_≡_, refl, _∙_}
 use borrow.Author.Needs.{needs}
 use lib.ListN.{length, getD}
 use Rattle.rules.specs.Listing.{printedUpTo}
-use Rattle.lines.specs.Text.{Puts, put-none, put-both, numbersLine, numbers-line-length}
+use Rattle.buffer.specs.Text.{Puts, put-none, put-both, numbersLine, numbers-line-length}
 use Rattle.listing.proofs.Printed.{printed-next}
 use Rattle.listing.proofs.put_lines.Statement.{statement}
 use Rattle.listing.proofs.put_lines.Tie as tie

@@ -1,5 +1,5 @@
 use Rattle.reading.proofs.Answering.{sheet-taken, refused-puts}
-use Rattle.lines.specs.Text.{put-both}
+use Rattle.buffer.specs.Text.{put-both}
 use Rattle.words.specs.Sheets.{trailerOf, answerText}
 use Rattle.words.specs.Scan.{textRead}
 use Rattle.words.specs.declared.scan.Reader.{Reader}

@@ -3,7 +3,7 @@ use Prim.Native.Nat.{_<_}
 use mathlib.Core.Path.{_≡_}
 use mathlib.Core.Bool.{true, false}
 use native.Mathlib.Omega.{arith}
-use Rattle.lines.specs.Text.{put-none}
+use Rattle.buffer.specs.Text.{put-none}
 use Rattle.words.specs.ReadLaws.{next-count, gives-room}
 use Rattle.words.specs.Scan.{givesRecord, given}
 use borrow.Author.Needs.{needs}

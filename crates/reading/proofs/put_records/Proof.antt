@@ -1,5 +1,5 @@
 -- `reading::put_records` meets its contract. The loop carries the records of the bytes so far, and each turn puts what its byte gives. Assumes nothing.
-use Rattle.lines.specs.Text.{Puts, put-none, put-both}
+use Rattle.buffer.specs.Text.{Puts, put-none, put-both}
 use Rattle.words.specs.ReadLaws.{count-most, reader-more, records-more, records-whole}
 use Rattle.words.specs.Scan.{unread, given, readAll, textRead}
 use lib.Seq.{take-length}

@@ -11,7 +11,7 @@ use Rattle.rules.specs.Parts.{isEmpty}
 use Rattle.rules.specs.Tables.{messageAt, visitAt}
 use Rattle.rules.specs.Machine.{lowestEmpty, slotPlace, isMessageOf, remains, stored}
 use Rattle.rules.specs.Listing.{printedUpTo}
-use Rattle.lines.specs.Text.{Puts, put-none}
+use Rattle.buffer.specs.Text.{Puts, put-none}
 use Rattle.decisions.specs.TurnsLaws.{turn-count-most}
 use Rattle.work.specs.Work.{readingLook, scanCount}
 use Rattle.work.specs.WorkLaws.{placesAt, scan-most, Working, Turned, working-starts, working-counts, working-most, working-sane, working-next, working-done, rest-found}

@@ -5,7 +5,7 @@ use Rattle.words.specs.Tell.{plainUpTo}
 use Rattle.words.specs.TextLaws.{record-length}
 use Rattle.telling.specs.Lengths.{record-bytes}
 use Rattle.telling.proofs.Lines.{plain-put}
-use Rattle.lines.specs.Text.{Puts, put-none}
+use Rattle.buffer.specs.Text.{Puts, put-none}
 use lib.ListN.{length}
 use mathlib.Core.Path.{_≡_, refl, _∙_}
 use Prim.Native.Nat.{_+_, _*_, _-_, _≤_}

@@ -1,5 +1,5 @@
-use Rattle.words.specs.TextLaws.{digits-length}
-use Rattle.lines.specs.Text.{put-both}
+use Rattle.rules.specs.ListingLaws.{digits-length}
+use Rattle.buffer.specs.Text.{put-both}
 use lib.ListN.{length, length-append}
 use Rattle.telling.specs.Lengths.{refused-length}
 use Prim.Native.Nat.{_≤_}

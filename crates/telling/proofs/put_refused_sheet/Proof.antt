@@ -1,6 +1,6 @@
 use Rattle.telling.specs.Lengths.{sheet-phrase-length}
-use Rattle.words.specs.TextLaws.{digits-length}
-use Rattle.lines.specs.Text.{put-both}
+use Rattle.rules.specs.ListingLaws.{digits-length}
+use Rattle.buffer.specs.Text.{put-both}
 use lib.ListN.{length}
 use Prim.Native.Nat.{_≤_, zero-le}
 use native.Mathlib.Omega.{arith}

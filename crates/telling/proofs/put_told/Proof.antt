@@ -4,7 +4,7 @@ use Rattle.rules.specs.Sheet.{recordAt}
 use Rattle.words.specs.Tell.{toldUpTo}
 use Rattle.telling.specs.Lengths.{record-bytes, record-short}
 use Rattle.telling.proofs.Lines.{told-put}
-use Rattle.lines.specs.Text.{Puts, put-none}
+use Rattle.buffer.specs.Text.{Puts, put-none}
 use lib.ListN.{length}
 use mathlib.Core.Path.{_≡_, refl, _∙_}
 use Prim.Native.Nat.{_+_, _*_, _-_, _≤_}

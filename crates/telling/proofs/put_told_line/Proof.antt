@@ -1,6 +1,6 @@
 use Rattle.telling.specs.Numbers.{numbersLine}
 use Rattle.telling.specs.Lengths.{place-digits, told-length}
-use Rattle.lines.specs.Text.{put-both}
+use Rattle.buffer.specs.Text.{put-both}
 use lib.ListN.{length}
 use Prim.Native.Nat.{_≤_}
 use native.Mathlib.Omega.{arith}

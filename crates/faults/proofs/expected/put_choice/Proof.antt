@@ -1,5 +1,5 @@
 use Rattle.faults.proofs.Choices.{separator-length}
-use Rattle.lines.specs.Text.{put-none, put-both}
+use Rattle.buffer.specs.Text.{put-none, put-both}
 use native.Mathlib.Omega.{arith}
 use borrow.Author.Tests.{eq-eqb, ne-eqb}
 use borrow.Author.Needs.{needs}

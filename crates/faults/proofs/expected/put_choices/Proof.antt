@@ -1,6 +1,6 @@
 -- `faults::expected::put_choices` meets its contract. The loop carries the words of the rows so far. Assumes nothing.
 use Rattle.faults.proofs.Choices.{choice-length}
-use Rattle.lines.specs.Text.{Puts, put-none, put-both}
+use Rattle.buffer.specs.Text.{Puts, put-none, put-both}
 use Rattle.words.specs.Faults.{choicesText}
 use lib.ListN.{length}
 use native.Mathlib.Numerals.{add-one}

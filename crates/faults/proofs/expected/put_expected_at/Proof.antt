@@ -4,7 +4,7 @@ use lib.Dec.{eqb}
 use mathlib.Core.Bool.{true}
 use mathlib.Core.Path.{_≡_}
 use Rattle.words.specs.Faults.{expectedAt}
-use Rattle.lines.specs.Text.{put-both}
+use Rattle.buffer.specs.Text.{put-both}
 use native.Mathlib.Omega.{arith}
 use borrow.Author.Tests.{ne-eqb}
 use borrow.Author.Needs.{needs}

@@ -1,4 +1,4 @@
-use Rattle.lines.specs.Text.{put-none}
+use Rattle.buffer.specs.Text.{put-none}
 use Prim.Native.Nat.{_+_}
 use borrow.Author.Tests.{eq-eqb, ne-eqb}
 use borrow.Author.Needs.{needs}

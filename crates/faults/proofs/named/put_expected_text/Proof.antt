@@ -1,4 +1,4 @@
-use Rattle.lines.specs.Text.{put-both}
+use Rattle.buffer.specs.Text.{put-both}
 use native.Mathlib.Omega.{arith}
 use borrow.Author.Needs.{needs}
 use Rattle.faults.proofs.named.put_expected_text.Statement.{statement}

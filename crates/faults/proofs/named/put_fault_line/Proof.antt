@@ -1,4 +1,5 @@
-use Rattle.lines.specs.Text.{put-both, digits-length}
+use Rattle.rules.specs.ListingLaws.{digits-length}
+use Rattle.buffer.specs.Text.{put-both}
 use Rattle.words.specs.Faults.{faultLine}
 use Prim.Native.Nat.{_+_, zero-le}
 use native.Mathlib.Omega.{arith}

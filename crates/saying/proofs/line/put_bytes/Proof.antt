@@ -3,7 +3,7 @@ use Rattle.words.specs.Say.{hexText}
 use Rattle.saying.proofs.Pieces.{bytes-more}
 use Rattle.words.specs.TextLaws.{hex-length}
 use borrow.Author.Needs.{needs}
-use Rattle.lines.specs.Text.{Puts, put-none, put-both}
+use Rattle.buffer.specs.Text.{Puts, put-none, put-both}
 use lib.Seq.{take-all}
 use lib.ListN.{length, getD, take}
 use mathlib.Core.List.{[], _∷_}

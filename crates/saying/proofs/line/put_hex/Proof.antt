@@ -1,5 +1,5 @@
 use Rattle.words.specs.Say.{hexText}
-use Rattle.lines.specs.Text.{put-both}
+use Rattle.buffer.specs.Text.{put-both}
 use lib.ListN.{length}
 use Prim.Native.Nat.{_≤_}
 use native.Mathlib.Omega.{arith}

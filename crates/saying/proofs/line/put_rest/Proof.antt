@@ -3,7 +3,7 @@ use mathlib.Core.Bool.{false}
 use Rattle.words.specs.Say.{pieceToken, restText}
 use Rattle.saying.proofs.Pieces.{pieces-put}
 use borrow.Author.Needs.{needs}
-use Rattle.lines.specs.Text.{Puts, put-none}
+use Rattle.buffer.specs.Text.{Puts, put-none}
 use lib.ListN.{length, take}
 use mathlib.Core.List.{map}
 use mathlib.Core.Path.{_≡_, refl, _∙_}

@@ -1,6 +1,6 @@
 use Rattle.words.specs.Say.{stepText}
 use Rattle.words.specs.TextLaws.{letters-length}
-use Rattle.lines.specs.Text.{put-both}
+use Rattle.buffer.specs.Text.{put-both}
 use lib.ListN.{length}
 use Prim.Native.Nat.{_≤_}
 use native.Mathlib.Omega.{arith}

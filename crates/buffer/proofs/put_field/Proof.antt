@@ -1,13 +1,13 @@
--- `lines::put_field` meets its contract. A space and a number are put one after the other.
+-- `buffer::put_field` meets its contract. A space and a number are put one after the other.
 -- Assumes nothing.
 use native.Mathlib.Omega.{arith}
 use Prim.Native.Nat.{_≤_}
 use lib.ListN.{length}
 use denote.Ref.{now}
-use Rattle.lines.specs.Text.{put-both}
+use Rattle.buffer.specs.Text.{put-both}
 use borrow.Author.Needs.{needs}
-use Rattle.lines.proofs.put_field.Statement.{statement}
-use Rattle.lines.proofs.put_field.Tie as tie
+use Rattle.buffer.proofs.put_field.Statement.{statement}
+use Rattle.buffer.proofs.put_field.Tie as tie
 
 returns : tie.Need-returns
 returns c =

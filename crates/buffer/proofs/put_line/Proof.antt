@@ -1,13 +1,14 @@
--- `lines::put_line` meets its contract. Four texts are put one after the other.
+-- `buffer::put_line` meets its contract. Four texts are put one after the other.
 -- Each has room, since a number has at most twenty digits. Assumes nothing.
 use native.Mathlib.Omega.{arith}
 use Prim.Native.Nat.{_≤_}
 use lib.ListN.{length}
 use denote.Ref.{now}
-use Rattle.lines.specs.Text.{put-both, digits-length}
+use Rattle.rules.specs.ListingLaws.{digits-length}
+use Rattle.buffer.specs.Text.{put-both}
 use borrow.Author.Needs.{needs}
-use Rattle.lines.proofs.put_line.Statement.{statement}
-use Rattle.lines.proofs.put_line.Tie as tie
+use Rattle.buffer.proofs.put_line.Statement.{statement}
+use Rattle.buffer.proofs.put_line.Tie as tie
 
 put-field-requires : tie.Need-put-field-requires
 put-field-requires c κs = omega (arith, digits-length 20 (c .before .before .before .before .before .before .args .place))

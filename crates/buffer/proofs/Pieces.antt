@@ -6,7 +6,7 @@ use mathlib.Core.Path.{_≡_}
 use mathlib.Core.List.{List}
 use lib.ListN.{length, getD, take, set}
 use lib.Seq.{take-suc}
-use Rattle.lines.specs.Text.{Puts, put-both, put-one}
+use Rattle.buffer.specs.Text.{Puts, put-both, put-one}
 
 pub one-more :
     (buf mid text : List ℕ) (at i : ℕ) → at ≤ length buf → i < length text → at + i < length mid

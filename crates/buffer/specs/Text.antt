@@ -1,18 +1,17 @@
 -- A text in a buffer: what writing it leaves, that one text after another is both, and at most how long each text is.
 -- A caller who keeps 64 bytes for each line of the listing has room. Assumes nothing.
-use Prim.Native.Nat.{ℕ, zero, suc, _+_, _/_, _%_, _≤_, _<_}
+use Prim.Native.Nat.{ℕ, _+_, _≤_, _<_}
 use mathlib.Core.Path.{_≡_, refl, sym, ap, _∙_}
 use mathlib.Core.List.{List, [], _∷_, _++_, append-assoc, append-nil}
 use native.Mathlib.Nat.{add-assoc, add-zero}
 use native.Mathlib.Numerals.{add-one}
 use native.Mathlib.Omega.{arith}
-use lib.Dec.{ltb}
 use lib.ListN.{length, take, drop, set, length-append, take-append-drop}
 use lib.Seq.{length-take-le, take-at, drop-at, drop-drop, set-split, append-snoc}
-use Rattle.rules.specs.LoopsLaws.{cond-keeps}
 use Rattle.rules.specs.declared.outcomes.Answer.{Answer}
 use Rattle.rules.specs.Answers.{answerNumber, answerValue}
-use Rattle.rules.specs.Listing.{digitsOf, decimalOf, lineOf, sheetLine}
+use Rattle.rules.specs.Listing.{decimalOf, lineOf, sheetLine}
+use Rattle.rules.specs.ListingLaws.{digits-length}
 
 -- the buffer with the text at `at`
 abbrev pub written : List ℕ → ℕ → List ℕ → List ℕ
@@ -70,15 +69,6 @@ put-both {buf} {mid} {last} {at} {m} {n} {x} {y} h p q = record {
   buffer = q .buffer ∙ rw (p .buffer, p .ends) (written-both buf at x y h);
   ends = rw (q .ends, p .ends, length-append x y) (omega arith);
 }
-
--- at most k digits
-pub digits-length : (k n : ℕ) → length (digitsOf k n) ≤ k
-unfolding digitsOf
-digits-length zero n = omega arith
-digits-length (suc k) n =
-    let r : length (digitsOf k (n / 10)) ≤ k = digits-length k (n / 10) in
-    cond-keeps (λ x. length x ≤ suc k) (ltb n 10) ((48 + n) ∷ []) (digitsOf k (n / 10) ++ ((48 + n % 10) ∷ [])) (omega arith)
-    (rw (length-append (digitsOf k (n / 10))) (omega arith))
 
 -- three numbers of at most twenty digits, two spaces and a newline
 pub numbers-line-length : (place number value : ℕ) → length (numbersLine place number value) ≤ 63

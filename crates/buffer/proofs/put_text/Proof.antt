@@ -1,5 +1,5 @@
-use Rattle.texts.proofs.Pieces.{one-more}
-use Rattle.lines.specs.Text.{Puts, put-none}
+use Rattle.buffer.proofs.Pieces.{one-more}
+use Rattle.buffer.specs.Text.{Puts, put-none}
 use lib.Seq.{take-length}
 use lib.ListN.{length, take, length-set}
 use Prim.Native.Nat.{_+_, _-_, _≤_}
@@ -7,8 +7,8 @@ use mathlib.Core.Path.{_≡_, refl, _∙_}
 use native.Mathlib.Nat.{add-zero}
 use native.Mathlib.Omega.{arith}
 use borrow.Author.Needs.{needs}
-use Rattle.texts.proofs.put_text.Statement.{statement}
-use Rattle.texts.proofs.put_text.Tie as tie
+use Rattle.buffer.proofs.put_text.Statement.{statement}
+use Rattle.buffer.proofs.put_text.Tie as tie
 
 abbrev Inv-loop : tie.InvT-loop
 Inv-loop out₀ at text n i₀ out i = Puts out₀ at (take i text) out (at + i) × (i ≤ length text) × (length out ≡ length out₀)

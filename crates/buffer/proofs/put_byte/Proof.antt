@@ -1,9 +1,9 @@
--- `lines::put_byte` meets its contract. One store is a text of one byte.
+-- `buffer::put_byte` meets its contract. One store is a text of one byte.
 -- Assumes nothing.
 use borrow.Author.Needs.{needs}
-use Rattle.lines.specs.Text.{put-one}
-use Rattle.lines.proofs.put_byte.Statement.{statement}
-use Rattle.lines.proofs.put_byte.Tie as tie
+use Rattle.buffer.specs.Text.{put-one}
+use Rattle.buffer.proofs.put_byte.Statement.{statement}
+use Rattle.buffer.proofs.put_byte.Tie as tie
 
 returns : tie.Need-returns
 returns c = put-one (c .args .out .now) (c .args .at) (c .args .byte) (c .pre)

@@ -1,0 +1,3 @@
+-- Laws that the proofs of buffer cite. Assumes nothing.
+mod Pieces
+mod Spelt

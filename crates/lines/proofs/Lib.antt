@@ -1,2 +1,0 @@
--- What the proof of the digits cites. Assumes nothing.
-mod Digits
