@@ -51,14 +51,14 @@ one-if-most : (b : Bool) → oneIf b ≤ 1
 one-if-most true = le-refl 1
 one-if-most false = omega arith
 
-count-most : (a : Answer) (b : Bool) (n : ℕ) → answerValue a ≤ n → answerValue (countOne a b) ≤ n + 1
-count-most (Answer.Accepted v) b n h = let k : oneIf b ≤ 1 = one-if-most b in omega arith
-count-most (Answer.Refused r) b n h = omega arith
+counted-most : (a : Answer) (b : Bool) (n : ℕ) → answerValue a ≤ n → answerValue (countOne a b) ≤ n + 1
+counted-most (Answer.Accepted v) b n h = let k : oneIf b ≤ 1 = one-if-most b in omega arith
+counted-most (Answer.Refused r) b n h = omega arith
 
 pub turn-counts : (trip : Trip) (slot : ℕ) (o : Outcome) → tripValue trip (o .answer) ≤ slot → tripValue trip (turnOf trip slot o .answer) ≤ slot + 1
 unfolding turnOf
 turn-counts Trip.Nowhere slot o h = omega arith
-turn-counts (Trip.Sweep site) slot o h = count-most (o .answer) _ slot h
+turn-counts (Trip.Sweep site) slot o h = counted-most (o .answer) _ slot h
 turn-counts (Trip.Crash site) slot o h = omega arith
 
 -- a trip starts at 0: an accepted sweep's head has value 0

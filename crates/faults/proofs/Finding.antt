@@ -22,8 +22,8 @@ use Rattle.words.specs.Faults.{linesPast, upToNewline, fromBy, faultFrom, noWor
 -- ---- one byte more of a text
 
 module _ (text : List ℕ) (i : ℕ) (here : i < length text) where
-  pub opened : drop i text ≡ getD text i 0 ∷ drop (i + 1) text
-  opened = rw (add-one i) (drop-cons text i 0 here)
+  pub opened-line : drop i text ≡ getD text i 0 ∷ drop (i + 1) text
+  opened-line = rw (add-one i) (drop-cons text i 0 here)
 
   -- past a newline there is one less to come
   pub past-more : (left : ℕ) → 0 < left → linesPast (cond (eqb (getD text i 0) 10) (left - 1) left) (drop (i + 1) text) ≡ linesPast left (drop i text)
@@ -32,8 +32,8 @@ module _ (text : List ℕ) (i : ℕ) (here : i < length text) where
   past-more (suc k) h =
       let less : suc k - 1 ≡ k = omega arith in
       ⊎-elim
-      (λ (e : eqb (getD text i 0) 10 ≡ true). rw (opened, e, less))
-      (λ (e : eqb (getD text i 0) 10 ≡ false). rw (opened, e))
+      (λ (e : eqb (getD text i 0) 10 ≡ true). rw (opened-line, e, less))
+      (λ (e : eqb (getD text i 0) 10 ≡ false). rw (opened-line, e))
       (either (eqb (getD text i 0) 10))
 
   -- the line goes on
@@ -48,7 +48,7 @@ module _ (text : List ℕ) (i : ℕ) (here : i < length text) where
       let place : from + (i - from) ≡ i = omega arith in
       let room : i - from < length (drop from text) = rw (length-drop from text) (omega arith) in
       let byte : getD (drop from text) (i - from) 0 ≡ b = getD-drop from text (i - from) 0 ∙ ap (λ (k : ℕ). getD text k 0) place in
-      let more : upToNewline (drop i text) ≡ b ∷ upToNewline (drop (i + 1) text) = rw (opened, other) in
+      let more : upToNewline (drop i text) ≡ b ∷ upToNewline (drop (i + 1) text) = rw (opened-line, other) in
       rw (one, take-suc (drop from text) (i - from) 0 room, byte, append-assoc (take (i - from) (drop from text)) (b ∷ []) (upToNewline (drop (i + 1) text)))
       (ap (λ (l : List ℕ). take (i - from) (drop from text) ++ l) (sym more) ∙ e)
 
@@ -59,12 +59,12 @@ module _ (text : List ℕ) (i : ℕ) (here : i < length text) where
       → take (i - from) (drop from text) ≡ upToNewline (drop from text)
   unfolding upToNewline
   line-over from newline e =
-      let none : upToNewline (drop i text) ≡ [] = rw (opened, newline) in
+      let none : upToNewline (drop i text) ≡ [] = rw (opened-line, newline) in
       sym (append-nil (take (i - from) (drop from text))) ∙ ap (λ (l : List ℕ). take (i - from) (drop from text) ++ l) (sym none) ∙ e
 
 -- at the text's end nothing is left
-pub past-end : (text : List ℕ) (i left : ℕ) → length text ≤ i → drop i text ≡ linesPast left (drop i text)
-past-end text i left h = rw (drop-of-length-le text h) (sym (past-none left))
+pub past-line-end : (text : List ℕ) (i left : ℕ) → length text ≤ i → drop i text ≡ linesPast left (drop i text)
+past-line-end text i left h = rw (drop-of-length-le text h) (sym (past-none left))
 
 pub line-end :
     (text : List ℕ) (i from : ℕ) → length text ≤ i
@@ -97,11 +97,11 @@ pub fault-more :
     ≡ faultFrom s (drop from line) (drop i line)
 unfolding faultFrom
 fault-more line i from s here =
-    rw (opened line i here, ← drop-by (scanNext s (getD line i 0) .mode) line from (i + 1))
+    rw (opened-line line i here, ← drop-by (scanNext s (getD line i 0) .mode) line from (i + 1))
 
 pub scan-more : (line : List ℕ) (i : ℕ) (s : Scan) → i < length line → scanAll (scanNext s (getD line i 0)) (drop (i + 1) line) ≡ scanAll s (drop i line)
 unfolding scanAll
-scan-more line i s here = rw (opened line i here)
+scan-more line i s here = rw (opened-line line i here)
 
 -- all bytes are
 pub fault-end : (line : List ℕ) (i from : ℕ) (s : Scan) → length line ≤ i → faultFrom s (drop from line) (drop i line) ≡ drop (fromBy (endOf s .mode) from (length line)) line
@@ -115,8 +115,8 @@ scan-end line i s h = rw (drop-of-length-le line h)
 
 -- ---- what stood there
 
-pub word-here : (line : List ℕ) (from : ℕ) → from < length line → noWord (drop from line) ≡ (isSpace (getD line from 0) || isHash (getD line from 0))
-word-here line from h = rw (opened line from h)
+pub word-found-here : (line : List ℕ) (from : ℕ) → from < length line → noWord (drop from line) ≡ (isSpace (getD line from 0) || isHash (getD line from 0))
+word-found-here line from h = rw (opened-line line from h)
 
 pub no-word-past : (line : List ℕ) (from : ℕ) → length line ≤ from → noWord (drop from line) ≡ true
 no-word-past line from h = rw (drop-of-length-le line h)
@@ -155,7 +155,7 @@ unfolding shownUpTo
 shows-more buf mid at line from k few room same here s =
     let b = getD line (from + k) 0 in
     let all = shownUpTo 20 (drop from line) in
-    let next : drop (from + k) line ≡ b ∷ drop (from + k + 1) line = opened line (from + k) (word-within line (from + k) here) in
+    let next : drop (from + k) line ≡ b ∷ drop (from + k + 1) line = opened-line line (from + k) (word-within line (from + k) here) in
     let one : 20 - k ≡ suc (20 - (k + 1)) = omega arith in
     let far : from + k + 1 ≡ from + (k + 1) = omega arith in
     let here2 : noWord (b ∷ drop (from + k + 1) line) ≡ false = rw next at here in

@@ -4,7 +4,7 @@ use native.Mathlib.Omega.{arith}
 use mathlib.Core.Path.{_≡_, refl}
 use mathlib.Core.List.{List, [], _∷_, map}
 use lib.ListN.{length, getD, List·getD-map}
-use Rattle.rules.specs.RecordLaws.{each-at}
+use Rattle.rules.specs.RecordLaws.{each-row-at}
 use Rattle.words.specs.declared.rows.Edge.{Edge}
 use Rattle.words.specs.declared.rows.Slot.{Slot}
 use Rattle.words.specs.Grammar.{edge, edges, edgeOf, takes, none, slots, slotAt}
@@ -36,7 +36,7 @@ slot-made k =
 -- four bytes from any field on are within the record
 pub slot-within : (k : ℕ) → k < 31 → getD (map (λ e. e .field) slots) k 0 ≤ 12
 slot-within k h =
-    rw (List·getD-map (λ (e : Slot). e .field) slots k none) (each-at (λ i. slotAt i .field ≤ 12) 31 (omega arith) k h)
+    rw (List·getD-map (λ (e : Slot). e .field) slots k none) (each-row-at (λ i. slotAt i .field ≤ 12) 31 (omega arith) k h)
 
 -- past its end a list has what is asked for there
 past-end : {A : Type 0} (l : List A) (k : ℕ) (d : A) → length l ≤ k → d ≡ getD l k d

@@ -9,12 +9,12 @@ use sheet::sheet_records;
 ghost use Prim.Native.Nat.{_*_, _≤_};
 ghost use lib.ListN.{length};
 ghost use Rattle.buffer.specs.Text.{Puts};
-ghost use Rattle.running.specs.Answered.{Holds};
+ghost use Rattle.running.specs.Answered.{HoldsAnswers};
 ghost use Rattle.rules.specs.Listing.{printedUpTo, listingOf};
 
 // The lines of the first n records of a part, by their answers.
 fn put_lines(part: &[u8], answers: &[u64], n: usize, out: &mut [u8]) -> usize
-    requires { ⌜ (2 * n ≤ length (now answers)) × (64 * n ≤ length (now out)) × Holds (now part) n (now answers) ⌝ }
+    requires { ⌜ (2 * n ≤ length (now answers)) × (64 * n ≤ length (now out)) × HoldsAnswers (now part) n (now answers) ⌝ }
     ensures { λ r. ⌜ Puts (now (out .entry)) 0 (printedUpTo (now (part .entry)) n .text) (now (out .exit)) r × (r ≤ 64 * n) ⌝ }
 {
     let mut at: usize = 0;

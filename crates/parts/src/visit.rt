@@ -8,7 +8,7 @@ ghost use Prim.Native.Nat.{_≤_, _<_, min, max};
 ghost use mathlib.Core.Path.{_≡_};
 ghost use lib.ListN.{getD};
 ghost use Rattle.rules.specs.Tables.{noVisit};
-ghost use Rattle.rules.specs.Parts.{clockTo, whereThere, quieted, withTimes, numbered, newVisit, countSent, countReceived, figuresOf, askedVisit, toldVisit};
+ghost use Rattle.rules.specs.Parts.{clockTo, whereThere, quieted, withTimes, withNumber, newVisit, countSent, countReceived, figuresOf, askedVisit, toldVisit};
 
 // The smaller of two times.
 fn least(a: u32, b: u64) -> u32
@@ -63,8 +63,8 @@ fn with_times(v: Visit, quiesce: u32, release: u32) -> Visit
     next
 }
 
-fn numbered(v: Visit, number: u16) -> Visit
-    ensures { λ r. ⌜ r ≡ numbered v number ⌝ }
+fn with_number(v: Visit, number: u16) -> Visit
+    ensures { λ r. ⌜ r ≡ withNumber v number ⌝ }
 {
     let mut next = v;
     next.round = number;
@@ -122,12 +122,12 @@ pub fn asked_visit(asked: Asked, number: u16, clock: u64, v: Visit) -> Visit
     ensures { λ r. ⌜ r ≡ askedVisit asked number clock v ⌝ }
 {
     match asked {
-        Asked::Refresh(release) => numbered(
+        Asked::Refresh(release) => with_number(
             with_times(v, v.quiesce, larger(v.release, release)),
             number,
         ),
-        Asked::Terminate => numbered(quieted(v, clock, false, v.dead), number),
-        Asked::Prepare => numbered(quieted(v, clock, true, v.dead), number),
+        Asked::Terminate => with_number(quieted(v, clock, false, v.dead), number),
+        Asked::Prepare => with_number(quieted(v, clock, true, v.dead), number),
     }
 }
 

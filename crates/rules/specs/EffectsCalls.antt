@@ -20,7 +20,7 @@ use Rattle.rules.specs.Machine.{lookOf, bodyBank, placesOf, seenOf, deci
 use Rattle.rules.specs.StoredLaws.{Sized}
 use Rattle.rules.specs.StoredObjects.{seen-object}
 use Rattle.rules.specs.RangesLaws.{neither}
-use Rattle.rules.specs.RangesFits.{CallFits, call-says, MessageFits}
+use Rattle.rules.specs.RangesFits.{CallFits, call-range-says, MessageFits}
 use Rattle.rules.specs.SettledLaws.{delivered-named}
 use Rattle.rules.specs.EffectsLaws.{OnlyVisit, OnlyMessage, OnlyObject, ClockMoves, accepted-in-range, accepted-decided, Done, done-at, only-visit, only-message, only-object, passages-stay, objects-stay, clock-moves}
 use Rattle.rules.specs.EffectsPlaces.{message-fits, given-places, mail-places, InUse, in-use, NewMessage, new-message}
@@ -149,7 +149,7 @@ unfolding deliverBodyOf deliverCallOf
 call-delivered-effects t m v c z e a =
     let below : m < 32 = deliver-below t m v a in
     let fits : MessageFits (messageAt t m) = message-fits t m (accepted-in-range t (Step.Deliver m) (ap isAccepted a)) below in
-    let call : CallFits c = call-says c (rw e at (fits .body)) in
+    let call : CallFits c = call-range-says c (rw e at (fits .body)) in
     let d =
     deliver-done t m v (Body.Call c) (callChecks m c) (λ seen. calledObject c seen .value) (λ seen. called c (mailClock seen) seen) z a e
     (λ seen. refl) in

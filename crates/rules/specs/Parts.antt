@@ -135,8 +135,8 @@ withTimes v q r =
     }
 
 -- "The visit takes the round number"
-abbrev pub numbered : Visit → ℕ → Visit
-numbered v n =
+abbrev pub withNumber : Visit → ℕ → Visit
+withNumber v n =
     record {
       there = v .there;
       quiesce = v .quiesce;
@@ -307,9 +307,9 @@ toldOf Kind.Prepare m = Told.Prepare
 -- .. The visit takes the round number."
 
 abbrev pub askedVisit : Asked → ℕ → ℕ → Visit → Visit
-askedVisit (Asked.Refresh r) n clock v = numbered (withTimes v (v .quiesce) (max (v .release) r)) n
-askedVisit Asked.Terminate n clock v = numbered (quieted v clock false (v .dead)) n
-askedVisit Asked.Prepare n clock v = numbered (quieted v clock true (v .dead)) n
+askedVisit (Asked.Refresh r) n clock v = withNumber (withTimes v (v .quiesce) (max (v .release) r)) n
+askedVisit Asked.Terminate n clock v = withNumber (quieted v clock false (v .dead)) n
+askedVisit Asked.Prepare n clock v = withNumber (quieted v clock true (v .dead)) n
 
 -- "at home, status committing"
 abbrev pub askedStatus : Asked → Status → Status

@@ -110,8 +110,8 @@ pub record CallFits (c : Call) : Type 0 where
   pub object : c .object ≤ 31
   pub value : c .value ≤ widthMost
 
-pub call-says : (c : Call) → callInRange c ≡ true → CallFits c
-call-says c e =
+pub call-range-says : (c : Call) → callInRange c ≡ true → CallFits c
+call-range-says c e =
     both e λ e v.
     both e λ e o.
     both e λ e n.

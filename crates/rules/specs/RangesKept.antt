@@ -29,7 +29,7 @@ use Rattle.rules.specs.StoredLaws.{Placed, turn-stored}
 use Rattle.rules.specs.Record.{stepOfRecord, readingOf, recordInRangeOf, stepRecordOf}
 use Rattle.rules.specs.Runs.{Started, runOf, runRecordsOf}
 use Rattle.rules.specs.RangesLaws.{set-keeps-at, both, neither, SeenInRange, seen-in-range, stored-in-range, placed-places, placed-trip}
-use Rattle.rules.specs.RangesFits.{Counts, RoundFits, PassageFits, VisitFits, CallFits, call-says, call-makes, MessageFits, ObjectFits, ObjectsFit, SeenFits, seen-says, seen-makes, times-fit, no-counts-fit, eight-figures-fit, no-round-fits, new-visit-fits, no-visit-fits, no-message-fits, answer-message-fits, let-go-fits, taken-fits, operated-fits, each-fits, told-objects-fit, quieted-fits, asked-visit-fits, told-visit-fits, asked-in-range, round-told-in-range, phase-two-fits, with-answer-fits, aborted-fits}
+use Rattle.rules.specs.RangesFits.{Counts, RoundFits, PassageFits, VisitFits, CallFits, call-range-says, call-makes, MessageFits, ObjectFits, ObjectsFit, SeenFits, seen-says, seen-makes, times-fit, no-counts-fit, eight-figures-fit, no-round-fits, new-visit-fits, no-visit-fits, no-message-fits, answer-message-fits, let-go-fits, taken-fits, operated-fits, each-fits, told-objects-fit, quieted-fits, asked-visit-fits, told-visit-fits, asked-in-range, round-told-in-range, phase-two-fits, with-answer-fits, aborted-fits}
 
 -- ---- the steps
 
@@ -181,7 +181,7 @@ module _ (seen : Seen) (b : SeenFits seen) where
   fits-after-deliver : (body : Body) (m : ℕ) → bodyInRange body ≡ true → SeenFits (deliverBodyOf body m seen .left)
   unfolding deliverBodyOf emptyOf
   fits-after-deliver Body.Empty m e = settled-fits _ _ _ (λ f. b)
-  fits-after-deliver (Body.Call c) m e = fits-after-call m c (call-says c e)
+  fits-after-deliver (Body.Call c) m e = fits-after-call m c (call-range-says c e)
   fits-after-deliver (Body.PhaseOne n asked) m e = both e λ h a. fits-after-phase-one m n asked (leb-true _ _ h) a
   fits-after-deliver (Body.PhaseTwo n told) m e = both {a = leb n countMost} e λ _ d. fits-after-phase-two m n told d
   fits-after-deliver (Body.Answer n received q) m e =

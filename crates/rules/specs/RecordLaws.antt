@@ -21,11 +21,11 @@ abbrev pub Each : (ℕ → Type 0) → ℕ → Type 0
 Each p zero = Unit {0}
 Each p (suc n) = Each p n × p n
 
-pub each-at : (p : ℕ → Type 0) (n : ℕ) → Each p n → (i : ℕ) → i < n → p i
-each-at p zero e i h = absurd (not-suc-le-zero h)
-each-at p (suc n) e i h =
+pub each-row-at : (p : ℕ → Type 0) (n : ℕ) → Each p n → (i : ℕ) → i < n → p i
+each-row-at p zero e i h = absurd (not-suc-le-zero h)
+each-row-at p (suc n) e i h =
     ⊎-elim
-    (λ l. each-at p n (e .0) i l)
+    (λ l. each-row-at p n (e .0) i l)
     (λ l. subst p (sym l) (e .1))
     (below-or-last i n h)
 
@@ -37,7 +37,7 @@ at-each p (suc n) f = (at-each p n (λ i h. f i (omega arith)), f n (omega arith
 pub last-left : (n x : ℕ) → 1 ≤ x → x ≤ n + 1 → Each (λ i. x ≡ i + 1 → ⊥) n → x ≡ n + 1
 last-left n x low high e =
     ⊎-elim
-    (λ h. absurd (each-at (λ i. x ≡ i + 1 → ⊥) n e (x - 1) (ltb-true (x - 1) n h) (omega arith)))
+    (λ h. absurd (each-row-at (λ i. x ≡ i + 1 → ⊥) n e (x - 1) (ltb-true (x - 1) n h) (omega arith)))
     (λ h. let past : n ≤ x - 1 = ltb-false (x - 1) n h in omega arith)
     (either (ltb (x - 1) n))
 
@@ -104,12 +104,12 @@ module _ (b : List ℕ) (w : Bytes16 b) where
   pub fields-bytes : bytesOf (fieldsOf b) ≡ b
   fields-bytes =
       ext-getD 0 (bytesOf (fieldsOf b)) b (sym (w .sixteen))
-      (each-at (λ i. getD (bytesOf (fieldsOf b)) i 0 ≡ getD b i 0) 16 (omega (arith, bytes)))
+      (each-row-at (λ i. getD (bytesOf (fieldsOf b)) i 0 ≡ getD b i 0) 16 (omega (arith, bytes)))
 
 -- fields of these widths are written as sixteen bytes
 pub bytes-sixteen : (f : Fields) → Widths f → Bytes16 (bytesOf f)
 bytes-sixteen f w =
-    record { sixteen = refl; byte = each-at (λ i. getD (bytesOf f) i 0 < 256) 16 (omega arith) }
+    record { sixteen = refl; byte = each-row-at (λ i. getD (bytesOf f) i 0 < 256) 16 (omega arith) }
 
 -- ---- the table
 
@@ -172,11 +172,11 @@ withCode code f =
     record { code = code; a = f .a; b = f .b; c = f .c; h = f .h; zero = f .zero; u = f .u; v = f .v }
 
 -- row by row, a step is made of the fields that its row keeps
-Row : Fields → ℕ → Type 0
-Row f i = flatOf (getD (stepsOf f) i (Step.Tick 0 0)) ≡ keptFields (withCode (i + 1) f)
+RowKept : Fields → ℕ → Type 0
+RowKept f i = flatOf (getD (stepsOf f) i (Step.Tick 0 0)) ≡ keptFields (withCode (i + 1) f)
 
-rows : (f : Fields) → Each (Row f) 16
-unfolding Row
+rows : (f : Fields) → Each (RowKept f) 16
+unfolding RowKept
 rows f =
     ((((((((((((((((tt, refl), refl), refl), refl), refl), refl), refl), refl), refl), refl), refl), refl), refl), refl), refl), refl)
 
@@ -213,14 +213,14 @@ known-fits f s e =
 
 -- and are that step's own fields
 known-flat : (f : Fields) (s : Step) → stepOfFields f ≡ Reading.Known s → flatOf s ≡ f
-unfolding stepOfFields Row
+unfolding stepOfFields RowKept
 known-flat f s e =
     let k = known-fits f s e in
     let code = code-known (f .code) (and-left (isCode (f .code)) (fieldsFit f) k) in
     let fit = and-right (isCode (f .code)) (fieldsFit f) k in
     let made : getD (stepsOf f) (f .code - 1) (Step.Tick 0 0) ≡ s = cc (rw k at e) in
     let back : f .code - 1 + 1 ≡ f .code = omega arith in
-    rw (← made) (rw back at (each-at (Row f) 16 (rows f) (f .code - 1) (omega arith)) ∙ fit-kept f fit)
+    rw (← made) (rw back at (each-row-at (RowKept f) 16 (rows f) (f .code - 1) (omega arith)) ∙ fit-kept f fit)
 
 -- each field of a step has its record's width
 abbrev pub StepFits : Step → Type 0

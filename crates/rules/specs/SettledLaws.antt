@@ -39,7 +39,7 @@ first-not-twenty (c ∷ cs) v e =
 -- ---- what it is to be settled
 
 -- this decision is settled by checks: a field out of range first, then the others
-record Settled (bad : Bool) (d : Decision) (seen : Seen) : Type 0 where
+record Checked (bad : Bool) (d : Decision) (seen : Seen) : Type 0 where
   others : List Check
   value : ℕ
   left : Seen
@@ -48,10 +48,10 @@ record Settled (bad : Bool) (d : Decision) (seen : Seen) : Type 0 where
 
 settles :
     (bad : Bool) (others : List Check) (v : ℕ) (left seen : Seen) → noTwenty others ≡ true
-    → Settled bad (settleOf (record { answer = firstOf (refuse Refusal.BadField bad ∷ others) v; left = left }) seen) seen
+    → Checked bad (settleOf (record { answer = firstOf (refuse Refusal.BadField bad ∷ others) v; left = left }) seen) seen
 settles bad others v left seen e = record { others = others; value = v; left = left; decided = refl; twentyless = e }
 
-module _ (bad : Bool) (d : Decision) (seen : Seen) (s : Settled bad d seen) where
+module _ (bad : Bool) (d : Decision) (seen : Seen) (s : Checked bad d seen) where
   settled-refused : isAccepted (d .answer) ≡ false → d .left ≡ seen
   settled-refused e =
       rw (s .decided) (settle-refused (record { answer = firstOf (refuse Refusal.BadField bad ∷ s .others) (s .value); left = s .left }) seen (rw (s .decided) at e))
@@ -64,51 +64,51 @@ module _ (bad : Bool) (d : Decision) (seen : Seen) (s : Settled bad d seen) wher
 
 -- ---- by what the message slot holds
 
-delivered-settled : (b : Body) (m : ℕ) (seen : Seen) → Settled (badMessage m) (deliverBodyOf b m seen) seen
+delivered-checked : (b : Body) (m : ℕ) (seen : Seen) → Checked (badMessage m) (deliverBodyOf b m seen) seen
 unfolding deliverBodyOf emptyOf deliverCallOf deliverPhaseOneOf deliverPhaseTwoOf deliverAnswerOf
-delivered-settled Body.Empty m seen = settles _ _ _ _ seen refl
-delivered-settled (Body.Call c) m seen = settles _ _ _ _ seen refl
-delivered-settled (Body.PhaseOne n a) m seen = settles _ _ _ _ seen refl
-delivered-settled (Body.PhaseTwo n d) m seen = settles _ _ _ _ seen refl
-delivered-settled (Body.Answer n r q) m seen = settles _ _ _ _ seen refl
+delivered-checked Body.Empty m seen = settles _ _ _ _ seen refl
+delivered-checked (Body.Call c) m seen = settles _ _ _ _ seen refl
+delivered-checked (Body.PhaseOne n a) m seen = settles _ _ _ _ seen refl
+delivered-checked (Body.PhaseTwo n d) m seen = settles _ _ _ _ seen refl
+delivered-checked (Body.Answer n r q) m seen = settles _ _ _ _ seen refl
 
 -- an accepted delivery names a message slot that there is
 pub delivered-named : (b : Body) (m : ℕ) (seen : Seen) → isAccepted (deliverBodyOf b m seen .answer) ≡ true → badMessage m ≡ false
-delivered-named b m seen = settled-fields (badMessage m) (deliverBodyOf b m seen) seen (delivered-settled b m seen)
+delivered-named b m seen = settled-fields (badMessage m) (deliverBodyOf b m seen) seen (delivered-checked b m seen)
 
 -- ---- by the step
 
-record StepSettled (step : Step) (found : Found) (seen : Seen) : Type 0 where
+record StepChecked (step : Step) (found : Found) (seen : Seen) : Type 0 where
   bad : Bool
-  settled : Settled bad (decideOf step found seen) seen
+  settled : Checked bad (decideOf step found seen) seen
 
-step-settles : {step : Step} {found : Found} {seen : Seen} {bad : Bool} → Settled bad (decideOf step found seen) seen → StepSettled step found seen
+step-settles : {step : Step} {found : Found} {seen : Seen} {bad : Bool} → Checked bad (decideOf step found seen) seen → StepChecked step found seen
 step-settles {step} {found} {seen} {bad} s = record { bad = bad; settled = s }
 
-step-settled : (step : Step) (found : Found) (seen : Seen) → StepSettled step found seen
+step-checked : (step : Step) (found : Found) (seen : Seen) → StepChecked step found seen
 unfolding decideOf tickOf sweepOf crashOf recoverOf beginOf abortOf retireOf refreshOf terminateOf prepareOf openOf askOf closeOf tellOf invokeOf dropOf
-step-settled (Step.Tick site n) found seen = step-settles (settles _ _ _ _ seen refl)
-step-settled (Step.Begin home slot q r) found seen = step-settles (settles _ _ _ _ seen refl)
-step-settled (Step.Invoke h site write object value) found seen = step-settles (settles _ _ _ _ seen refl)
-step-settled (Step.Refresh h q r) found seen = step-settles (settles _ _ _ _ seen refl)
-step-settled (Step.Terminate h) found seen = step-settles (settles _ _ _ _ seen refl)
-step-settled (Step.Prepare h) found seen = step-settles (settles _ _ _ _ seen refl)
-step-settled (Step.Ask h site) found seen = step-settles (settles _ _ _ _ seen refl)
-step-settled (Step.Close h) found seen = step-settles (settles _ _ _ _ seen refl)
-step-settled (Step.Tell h site) found seen = step-settles (settles _ _ _ _ seen refl)
-step-settled (Step.Abort h) found seen = step-settles (settles _ _ _ _ seen refl)
-step-settled (Step.Deliver m) found seen = step-settles (delivered-settled (seen .message .body) m seen)
-step-settled (Step.Drop m) found seen = step-settles (settles _ _ _ _ seen refl)
-step-settled (Step.Sweep site) found seen = step-settles (settles _ _ _ _ seen refl)
-step-settled (Step.Crash site) found seen = step-settles (settles _ _ _ _ seen refl)
-step-settled (Step.Recover site) found seen = step-settles (settles _ _ _ _ seen refl)
-step-settled (Step.Retire h) found seen = step-settles (settles _ _ _ _ seen refl)
+step-checked (Step.Tick site n) found seen = step-settles (settles _ _ _ _ seen refl)
+step-checked (Step.Begin home slot q r) found seen = step-settles (settles _ _ _ _ seen refl)
+step-checked (Step.Invoke h site write object value) found seen = step-settles (settles _ _ _ _ seen refl)
+step-checked (Step.Refresh h q r) found seen = step-settles (settles _ _ _ _ seen refl)
+step-checked (Step.Terminate h) found seen = step-settles (settles _ _ _ _ seen refl)
+step-checked (Step.Prepare h) found seen = step-settles (settles _ _ _ _ seen refl)
+step-checked (Step.Ask h site) found seen = step-settles (settles _ _ _ _ seen refl)
+step-checked (Step.Close h) found seen = step-settles (settles _ _ _ _ seen refl)
+step-checked (Step.Tell h site) found seen = step-settles (settles _ _ _ _ seen refl)
+step-checked (Step.Abort h) found seen = step-settles (settles _ _ _ _ seen refl)
+step-checked (Step.Deliver m) found seen = step-settles (delivered-checked (seen .message .body) m seen)
+step-checked (Step.Drop m) found seen = step-settles (settles _ _ _ _ seen refl)
+step-checked (Step.Sweep site) found seen = step-settles (settles _ _ _ _ seen refl)
+step-checked (Step.Crash site) found seen = step-settles (settles _ _ _ _ seen refl)
+step-checked (Step.Recover site) found seen = step-settles (settles _ _ _ _ seen refl)
+step-checked (Step.Retire h) found seen = step-settles (settles _ _ _ _ seen refl)
 
 -- a refused decision leaves what was seen
 pub decided-refused :
     (step : Step) (found : Found) (seen : Seen) → isAccepted (decideOf step found seen .answer) ≡ false
     → decideOf step found seen .left ≡ seen
-decided-refused step found seen = settled-refused _ (decideOf step found seen) seen (step-settled step found seen .settled)
+decided-refused step found seen = settled-refused _ (decideOf step found seen) seen (step-checked step found seen .settled)
 
 pub decided-not-twenty : (step : Step) (found : Found) (seen : Seen) → isTwenty (decideOf step found seen .answer) ≡ false
-decided-not-twenty step found seen = settled-not-twenty _ (decideOf step found seen) seen (step-settled step found seen .settled)
+decided-not-twenty step found seen = settled-not-twenty _ (decideOf step found seen) seen (step-checked step found seen .settled)

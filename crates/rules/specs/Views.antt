@@ -110,13 +110,13 @@ pub record Deed (step : Step) : Type 0 where
 
 -- ---- deliveries, by what the slot holds
 
-pub mailOf : (body : Body) → Mail body
+pub mailDeed : (body : Body) → Mail body
 unfolding deliverBodyOf emptyOf deliverAnswerOf
-mailOf Body.Empty = Mail.Quiet _ (λ m seen. same (λ s. s .objects) _ _ seen _ refl) (λ m seen. same (λ s. s .visit) _ _ seen _ refl)
-mailOf (Body.Call c) = Mail.Calls c
-mailOf (Body.PhaseOne n asked) = Mail.Asks n asked
-mailOf (Body.PhaseTwo n told) = Mail.Tells n told
-mailOf (Body.Answer n r q) = Mail.Quiet _ (λ m seen. same (λ s. s .objects) _ _ seen _ refl) (λ m seen. same (λ s. s .visit) _ _ seen _ refl)
+mailDeed Body.Empty = Mail.Quiet _ (λ m seen. same (λ s. s .objects) _ _ seen _ refl) (λ m seen. same (λ s. s .visit) _ _ seen _ refl)
+mailDeed (Body.Call c) = Mail.Calls c
+mailDeed (Body.PhaseOne n asked) = Mail.Asks n asked
+mailDeed (Body.PhaseTwo n told) = Mail.Tells n told
+mailDeed (Body.Answer n r q) = Mail.Quiet _ (λ m seen. same (λ s. s .objects) _ _ seen _ refl) (λ m seen. same (λ s. s .visit) _ _ seen _ refl)
 
 pub empty-says : (b : Body) → isEmpty b ≡ true → b ≡ Body.Empty
 empty-says Body.Empty e = refl

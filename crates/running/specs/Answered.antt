@@ -30,7 +30,7 @@ answered-length part (suc n) =
     length-append (answeredUpTo part n) (answerNumber (answerAt part n) ∷ answerValue (answerAt part n) ∷ []) ∙ rw (answered-length part n) (omega arith)
 
 -- the answers of the first n records stand in a list, each in its two places
-pub record Holds (part : List ℕ) (n : ℕ) (list : List ℕ) : Type 0 where
+pub record HoldsAnswers (part : List ℕ) (n : ℕ) (list : List ℕ) : Type 0 where
   pub number : (i : ℕ) → i < n → getD list (2 * i) 0 ≡ answerNumber (answerAt part i)
   pub value : (i : ℕ) → i < n → getD list (2 * i + 1) 0 ≡ answerValue (answerAt part i)
 
@@ -61,7 +61,7 @@ module _ (part : List ℕ) where
       (below-or-last i n h)
 
   -- a list into which the answers were put holds them
-  pub answers-held : (n : ℕ) (before after : List ℕ) → Puts before 0 (answeredUpTo part n) after (2 * n) → Holds part n after
+  pub answers-held : (n : ℕ) (before after : List ℕ) → Puts before 0 (answeredUpTo part n) after (2 * n) → HoldsAnswers part n after
   answers-held n before after p = record {
     number = λ i h.
         rw (p .buffer)

@@ -2,7 +2,7 @@
 use words::rows::Slot;
 ghost use Prim.Native.Nat.{_+_, _≤_, _<_};
 ghost use mathlib.Core.Path.{_≡_};
-ghost use Rattle.words.specs.Grammar.{mostIn, said, putOne, putTwo, putFour, stored};
+ghost use Rattle.words.specs.Grammar.{mostIn, said, putOne, putTwo, putFour, slotStored};
 
 // The largest number that so many bytes hold.
 pub(crate) fn most_in(width: u8) -> u64
@@ -65,9 +65,9 @@ fn put_four(field: usize, n: u64, bytes: [u8; 16]) -> [u8; 16]
 }
 
 // A number into its field.
-pub(crate) fn stored(slot: Slot, n: u64, bytes: [u8; 16]) -> [u8; 16]
+pub(crate) fn slot_stored(slot: Slot, n: u64, bytes: [u8; 16]) -> [u8; 16]
     requires { ⌜ (slot .field ≤ 12) × (n ≤ mostIn (slot .width)) ⌝ }
-    ensures { λ r. ⌜ r ≡ stored slot n bytes ⌝ }
+    ensures { λ r. ⌜ r ≡ slotStored slot n bytes ⌝ }
 {
     let field = slot.field as usize;
     if slot.width == 1 {

@@ -6,7 +6,7 @@ use crate::bytes::is_letter;
 use crate::bytes::is_space;
 use crate::fields::most_in;
 use crate::fields::said;
-use crate::fields::stored;
+use crate::fields::slot_stored;
 use grammar::edge_at;
 use grammar::edge_of;
 use grammar::may_end;
@@ -22,7 +22,7 @@ use words::scan::Verdict;
 ghost use Prim.Native.Nat.{_≤_, _<_};
 ghost use mathlib.Core.Path.{_≡_};
 ghost use mathlib.Core.Bool.{true};
-ghost use Rattle.words.specs.Scan.{at, blank, wrong, misplaced, followed, wordTaken, filled, numberTaken, endOf, noted, hexTaken, hexNext, isLetter, isDigit, lettered, numbered, begun, byteBy, liveNext, scanNext, isRecord, endsAt, verdictOf};
+ghost use Rattle.words.specs.Scan.{at, blank, wrong, misplaced, followed, wordTaken, filled, numberTaken, endOf, noted, hexTaken, hexNext, isLetter, isDigit, lettered, numbered, tokenBegun, byteBy, liveNext, scanNext, isRecord, endsAt, verdictOf};
 
 fn made(mode: Mode, token: u64, node: u8, digits: u8, bytes: [u8; 16]) -> Scan
     ensures { λ r. ⌜ r ≡ at mode token node digits bytes ⌝ }
@@ -88,7 +88,7 @@ fn filled(s: Scan, f: Slot) -> Scan
         return wrong(s, Fault::TooLarge);
     }
     let bytes = s.bytes;
-    let next = stored(f, s.token, bytes);
+    let next = slot_stored(f, s.token, bytes);
     made(Mode::Gap, 0, f.to, s.digits, next)
 }
 
@@ -194,8 +194,8 @@ fn numbered(s: Scan, b: u8) -> Scan
 }
 
 // The first byte of a word or a number.
-fn begun(s: Scan, b: u8) -> Scan
-    ensures { λ r. ⌜ r ≡ begun s b ⌝ }
+fn token_begun(s: Scan, b: u8) -> Scan
+    ensures { λ r. ⌜ r ≡ tokenBegun s b ⌝ }
 {
     if is_letter(b) {
         return lettered(s, b);
@@ -212,7 +212,7 @@ fn in_gap(s: Scan, b: u8) -> Scan
     if s.node == RAW_NODE {
         return hex_next(s, b);
     }
-    begun(s, b)
+    token_begun(s, b)
 }
 
 fn in_word(s: Scan, b: u8) -> Scan

@@ -12,13 +12,13 @@ use Rattle.buffer.specs.Text.{Puts, put-both}
 use Rattle.words.specs.Say.{recordText}
 use Rattle.words.specs.Tell.{toldUpTo, plainUpTo}
 use Rattle.running.specs.Answered.{answerAt}
-use Rattle.telling.specs.Numbers.{numbersLine}
-use Rattle.telling.specs.Lengths.{numbers-line-length, record-short}
+use Rattle.telling.specs.Numbers.{numbersToldLine}
+use Rattle.telling.specs.Lengths.{told-line-length, record-short}
 use Rattle.telling.proofs.Numbers.{line-told}
 
 told-more :
     (part : List ℕ) (i : ℕ)
-    → toldUpTo part i ++ numbersLine (i + 1) (recordAt part i) (answerNumber (answerAt part i)) (answerValue (answerAt part i))
+    → toldUpTo part i ++ numbersToldLine (i + 1) (recordAt part i) (answerNumber (answerAt part i)) (answerValue (answerAt part i))
     ≡ toldUpTo part (i + 1)
 unfolding toldUpTo
 told-more part i =
@@ -38,13 +38,13 @@ pub told-put :
     → i < 4095
     → m ≤ 128 * i
     → Puts buf 0 (toldUpTo part i) mid m
-    → Puts mid m (numbersLine (i + 1) b number value) last n
+    → Puts mid m (numbersToldLine (i + 1) b number value) last n
     → Puts buf 0 (toldUpTo part (i + 1)) last n × (n ≤ 128 * (i + 1))
 told-put part b i number value {buf} {mid} {last} {m} {n} eb en ev w few room p q =
-    let r : Puts mid m (numbersLine (i + 1) (recordAt part i) (answerNumber (answerAt part i)) (answerValue (answerAt part i))) last n = rw (eb, en, ev) at q in
+    let r : Puts mid m (numbersToldLine (i + 1) (recordAt part i) (answerNumber (answerAt part i)) (answerValue (answerAt part i))) last n = rw (eb, en, ev) at q in
     let e = r .ends in
     let short : length (recordText (recordAt part i)) ≤ 66 = record-short (recordAt part i) w in
-    let long = numbers-line-length (i + 1) (recordAt part i) (answerNumber (answerAt part i)) (answerValue (answerAt part i)) (omega arith) short in
+    let long = told-line-length (i + 1) (recordAt part i) (answerNumber (answerAt part i)) (answerValue (answerAt part i)) (omega arith) short in
     (rw (told-more part i) at (put-both zero-le p r), omega (arith, long, e))
 
 -- one record more, in words

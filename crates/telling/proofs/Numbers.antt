@@ -14,7 +14,7 @@ use Rattle.rules.proofs.outcomes.Refusal.{parts, as-values, make, eta}
 use Rattle.rules.specs.Answers.{refusalNumber, answerNumber, answerValue}
 use Rattle.rules.specs.LoopsLaws.{and-left, and-right, not-true}
 use Rattle.words.specs.Tell.{refusalPhrases, refusalPhrase, answerTold, toldLine}
-use Rattle.telling.specs.Numbers.{numbersTold, numbersLine}
+use Rattle.telling.specs.Numbers.{numbersTold, numbersToldLine}
 
 -- a test of each variant of an enum whose variants hold nothing
 abbrev every : (variants : List (List Field)) → (Choice variants → Bool) → Bool
@@ -48,6 +48,6 @@ numbers-told (Answer.Accepted v) = refl
 numbers-told (Answer.Refused r) = rw (not-true (eqb (refusalNumber r) 0) (refused-not-zero r))
 
 pub line-told :
-    (place : ℕ) (bytes : List ℕ) (a : Answer) → numbersLine place bytes (answerNumber a) (answerValue a) ≡ toldLine place bytes a
-unfolding numbersLine toldLine
+    (place : ℕ) (bytes : List ℕ) (a : Answer) → numbersToldLine place bytes (answerNumber a) (answerValue a) ≡ toldLine place bytes a
+unfolding numbersToldLine toldLine
 line-told place bytes a = rw (numbers-told a)

@@ -8,12 +8,12 @@ use types.Run.{OneOf, miss}
 use Rattle.rules.specs.declared.steps.SheetAnswer.{SheetAnswer}
 use Rattle.rules.proofs.steps.SheetAnswer.{the-type}
 use Rattle.rules.specs.Sheet.{sheetAnswer, sheetRecords}
-use Rattle.words.specs.Tell.{refusedSheet, sheetBy, toldUpTo, plainUpTo, toldOf, plainOf}
+use Rattle.words.specs.Tell.{refusedSheet, sheetBy, toldUpTo, plainUpTo, sheetTold, plainOf}
 
 pub told-taken :
     (b : List ℕ) → sheetAnswer b ≡ SheetAnswer.Taken
-    → toldUpTo (sheetRecords b) (length (sheetRecords b) / 16) ≡ toldOf b
-unfolding toldOf
+    → toldUpTo (sheetRecords b) (length (sheetRecords b) / 16) ≡ sheetTold b
+unfolding sheetTold
 told-taken b e = rw e
 
 pub plain-taken :
@@ -23,21 +23,21 @@ unfolding plainOf
 plain-taken b e = rw e
 
 -- a sheet that is not taken has one line
-refused-by : (a : SheetAnswer) (text : List ℕ) → OneOf (1 ∷ 2 ∷ 3 ∷ 4 ∷ []) (tagOf the-type a) → refusedSheet a ≡ sheetBy a text
-refused-by SheetAnswer.Taken text h = absurd (miss (1 ∷ 2 ∷ 3 ∷ 4 ∷ []) 0 tt h)
-refused-by SheetAnswer.TooLong text h = refl
-refused-by SheetAnswer.TooShort text h = refl
-refused-by SheetAnswer.BadMark text h = refl
-refused-by SheetAnswer.BadDistance text h = refl
+refused-told-by : (a : SheetAnswer) (text : List ℕ) → OneOf (1 ∷ 2 ∷ 3 ∷ 4 ∷ []) (tagOf the-type a) → refusedSheet a ≡ sheetBy a text
+refused-told-by SheetAnswer.Taken text h = absurd (miss (1 ∷ 2 ∷ 3 ∷ 4 ∷ []) 0 tt h)
+refused-told-by SheetAnswer.TooLong text h = refl
+refused-told-by SheetAnswer.TooShort text h = refl
+refused-told-by SheetAnswer.BadMark text h = refl
+refused-told-by SheetAnswer.BadDistance text h = refl
 
 pub told-refused :
     (b : List ℕ) (a : SheetAnswer) → a ≡ sheetAnswer b → OneOf (1 ∷ 2 ∷ 3 ∷ 4 ∷ []) (tagOf the-type a)
-    → refusedSheet a ≡ toldOf b
-unfolding toldOf
-told-refused b a e h = rw (← e) (refused-by a _ h)
+    → refusedSheet a ≡ sheetTold b
+unfolding sheetTold
+told-refused b a e h = rw (← e) (refused-told-by a _ h)
 
 pub plain-refused :
     (b : List ℕ) (a : SheetAnswer) → a ≡ sheetAnswer b → OneOf (1 ∷ 2 ∷ 3 ∷ 4 ∷ []) (tagOf the-type a)
     → refusedSheet a ≡ plainOf b
 unfolding plainOf
-plain-refused b a e h = rw (← e) (refused-by a _ h)
+plain-refused b a e h = rw (← e) (refused-told-by a _ h)

@@ -16,12 +16,12 @@ use Rattle.rules.specs.Listing.{spelt, digitsOf, decimalOf}
 use Rattle.rules.specs.ListingLaws.{digits-length}
 use Rattle.rules.specs.LoopsLaws.{either, cond-keeps}
 use Rattle.rules.specs.Record.{stepOfRecord}
-use Rattle.rules.specs.RecordLaws.{each-at, Bytes16, StepFits, read-fits}
+use Rattle.rules.specs.RecordLaws.{each-row-at, Bytes16, StepFits, read-fits}
 use Rattle.rules.specs.Sheet.{recordAt}
 use Rattle.words.specs.Say.{Token, writeTokens, readTokens, readValueTokens, otherTokens, operationTokens, restText, stepText, rawText, recordBy, recordText}
 use Rattle.words.specs.TextLaws.{cond-length, hex-length}
 use Rattle.words.specs.Tell.{refusalPhrases, sheetPhrase, acceptedTold, refusedTold}
-use Rattle.telling.specs.Numbers.{numbersTold, numbersLine}
+use Rattle.telling.specs.Numbers.{numbersTold, numbersToldLine}
 
 -- ---- digits
 
@@ -116,7 +116,7 @@ accepted-length v = omega (arith, digits-length 20 v)
 -- computed at each place that has a phrase
 phrase-told : (n : ℕ) → n < length refusalPhrases → length (refusedTold n) ≤ 56
 unfolding refusalPhrases spelt
-phrase-told n h = each-at (λ k. length (refusedTold k) ≤ 56) (length refusalPhrases) (omega arith) n h
+phrase-told n h = each-row-at (λ k. length (refusedTold k) ≤ 56) (length refusalPhrases) (omega arith) n h
 
 -- past them there is a number alone
 pub refused-length : (n : ℕ) → length (refusedTold n) ≤ 56
@@ -142,8 +142,8 @@ sheet-phrase-length SheetAnswer.BadDistance = omega arith
 
 -- ---- the line of a record
 
-pub numbers-line-length :
-    (place : ℕ) (b : List ℕ) (n v : ℕ) → place ≤ 9999 → length (recordText b) ≤ 66 → length (numbersLine place b n v) ≤ 128
-unfolding numbersLine
-numbers-line-length place b n v few short =
+pub told-line-length :
+    (place : ℕ) (b : List ℕ) (n v : ℕ) → place ≤ 9999 → length (recordText b) ≤ 66 → length (numbersToldLine place b n v) ≤ 128
+unfolding numbersToldLine
+told-line-length place b n v few short =
     simp (length-append) (omega (arith, place-digits place few, short, told-length n v))

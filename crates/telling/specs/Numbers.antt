@@ -12,6 +12,6 @@ abbrev pub numbersTold : ℕ → ℕ → List ℕ
 numbersTold number value = cond (eqb number 0) (acceptedTold value) (refusedTold number)
 
 -- place, words, answer
-unfoldable pub numbersLine : ℕ → List ℕ → ℕ → ℕ → List ℕ
-numbersLine place bytes number value =
+unfoldable pub numbersToldLine : ℕ → List ℕ → ℕ → ℕ → List ℕ
+numbersToldLine place bytes number value =
     decimalOf place ++ (32 ∷ recordText bytes) ++ numbersTold number value ++ (10 ∷ [])

@@ -15,9 +15,9 @@ ghost use mathlib.Core.Path.{_≡_};
 ghost use lib.ListN.{length, take};
 ghost use Rattle.buffer.specs.Text.{Puts};
 ghost use Rattle.words.specs.Say.{recordText};
-ghost use Rattle.words.specs.Tell.{refusalPhrase, acceptedTold, refusedTold, sheetPhrase, refusedSheet, toldUpTo, plainUpTo, toldOf, plainOf};
-ghost use Rattle.running.specs.Answered.{Holds};
-ghost use Rattle.telling.specs.Numbers.{numbersTold, numbersLine};
+ghost use Rattle.words.specs.Tell.{refusalPhrase, acceptedTold, refusedTold, sheetPhrase, refusedSheet, toldUpTo, plainUpTo, sheetTold, plainOf};
+ghost use Rattle.running.specs.Answered.{HoldsAnswers};
+ghost use Rattle.telling.specs.Numbers.{numbersTold, numbersToldLine};
 
 // A phrase: how long it is, and its bytes with spaces behind them.
 struct Phrase(usize, [u8; 32]);
@@ -139,7 +139,7 @@ fn put_told_line(
     value: u64,
 ) -> usize
     requires { ⌜ (at + 128 ≤ length (now out)) × (place ≤ 9999) × (length (recordText bytes) ≤ 66) ⌝ }
-    ensures { λ x. ⌜ Puts (now (out .entry)) at (numbersLine place bytes number value) (now (out .exit)) x ⌝ }
+    ensures { λ x. ⌜ Puts (now (out .entry)) at (numbersToldLine place bytes number value) (now (out .exit)) x ⌝ }
 {
     let after_place = put_digits(out, at, 20, place);
     let after_space = put_byte(out, after_place, b' ');
@@ -150,7 +150,7 @@ fn put_told_line(
 
 // The lines of the first n records of a part, whose answers are given by their numbers.
 fn put_told(part: &[u8], answers: &[u64], n: usize, out: &mut [u8]) -> usize
-    requires { ⌜ (16 * n ≤ length (now part)) × (2 * n ≤ length (now answers)) × (128 * n ≤ length (now out)) × (n ≤ 4095) × Holds (now part) n (now answers) ⌝ }
+    requires { ⌜ (16 * n ≤ length (now part)) × (2 * n ≤ length (now answers)) × (128 * n ≤ length (now out)) × (n ≤ 4095) × HoldsAnswers (now part) n (now answers) ⌝ }
     ensures { λ x. ⌜ Puts (now (out .entry)) 0 (toldUpTo (now (part .entry)) n) (now (out .exit)) x × (x ≤ 128 * n) ⌝ }
 {
     let mut at: usize = 0;
@@ -184,7 +184,7 @@ fn put_plain(part: &[u8], n: usize, out: &mut [u8]) -> usize
 // A sheet in words, each record with its place and its answer, at the front of the caller's buffer, which has room for any.
 // The answer is the length of the text. The bytes behind it stay as they were.
 pub fn tell(sheet: &[u8], out: &mut [u8; 524288]) -> usize
-    ensures { λ x. ⌜ Puts (now (out .entry)) 0 (toldOf (now (sheet .entry))) (now (out .exit)) x × (x ≤ length (now (out .exit))) ⌝ }
+    ensures { λ x. ⌜ Puts (now (out .entry)) 0 (sheetTold (now (sheet .entry))) (now (out .exit)) x × (x ≤ length (now (out .exit))) ⌝ }
 {
     let answer = sheet_answer(sheet);
     let SheetAnswer::Taken = answer else {

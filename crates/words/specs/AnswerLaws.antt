@@ -24,7 +24,7 @@ use Rattle.words.specs.Sheets.{sheetOf, answerText, textMost, longLine, 
 use Rattle.words.specs.TextLaws.{OneLine, read-append, going, line-bytes}
 use Rattle.words.specs.LineLaws.{lined-by, stopped-stays, last-newline, line-found}
 use Rattle.words.specs.SheetsLaws.{made-taken, made-holds}
-use Rattle.words.specs.KeptLaws.{Kept, text-kept}
+use Rattle.words.specs.KeptLaws.{KeptReader, text-kept}
 
 -- ---- the number of a line
 
@@ -133,7 +133,7 @@ module _ (text : List ℕ) where
       unfolding answerText
       text-sheet = rw (text-short, going)
 
-      sixteens : Kept (textRead (unmarked text))
+      sixteens : KeptReader (textRead (unmarked text))
       sixteens = text-kept (unmarked text)
 
       -- and that sheet is taken and holds them

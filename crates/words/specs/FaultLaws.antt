@@ -138,20 +138,20 @@ HeldBy Mode.Number here node = here ≡ node
 HeldBy Mode.Comment here node = ⊥
 HeldBy (Mode.Wrong f) here node = here ≡ node
 
-abbrev Held : ℕ → Scan → Type 0
-Held node s = HeldBy (s .mode) (s .node) node
+abbrev HeldAt : ℕ → Scan → Type 0
+HeldAt node s = HeldBy (s .mode) (s .node) node
 
-cond-held : (node : ℕ) (t : Bool) (x y : Scan) → Held node x → Held node y → Held node (cond t x y)
-cond-held node = cond-keeps (Held node)
+cond-held : (node : ℕ) (t : Bool) (x y : Scan) → HeldAt node x → HeldAt node y → HeldAt node (cond t x y)
+cond-held node = cond-keeps (HeldAt node)
 
-lettered-held : (node : ℕ) (s : Scan) (b : ℕ) → s .node ≡ node → Held node (lettered s b)
+lettered-held : (node : ℕ) (s : Scan) (b : ℕ) → s .node ≡ node → HeldAt node (lettered s b)
 lettered-held node s b h = cond-held node (ltb 36028797018963967 (s .token)) _ _ h h
 
-numbered-held : (node : ℕ) (s : Scan) (b : ℕ) → s .node ≡ node → Held node (numbered s b)
+numbered-held : (node : ℕ) (s : Scan) (b : ℕ) → s .node ≡ node → HeldAt node (numbered s b)
 numbered-held node s b h = cond-held node (ltb 429496729 (s .token)) _ _ h h
 
 -- its first byte
-first-held : (node digits : ℕ) (bytes : List ℕ) (b : ℕ) → eqb node rawNode ≡ false → isSpace b ≡ false → isHash b ≡ false → Held node (scanNext (at Mode.Gap 0 node digits bytes) b)
+first-held : (node digits : ℕ) (bytes : List ℕ) (b : ℕ) → eqb node rawNode ≡ false → isSpace b ≡ false → isHash b ≡ false → HeldAt node (scanNext (at Mode.Gap 0 node digits bytes) b)
 unfolding scanNext
 first-held node digits bytes b plain space hash =
     let s = at Mode.Gap 0 node digits bytes in
@@ -160,7 +160,7 @@ first-held node digits bytes b plain space hash =
     (cond-held node (isDigit b) (numbered s b) _ (numbered-held node s b refl) refl))
 
 -- a byte more
-more-by : (m : Mode) (node : ℕ) (s : Scan) (b : ℕ) → s .mode ≡ m → isSpace b ≡ false → isHash b ≡ false → HeldBy m (s .node) node → Held node (nextBy m s b)
+more-by : (m : Mode) (node : ℕ) (s : Scan) (b : ℕ) → s .mode ≡ m → isSpace b ≡ false → isHash b ≡ false → HeldBy m (s .node) node → HeldAt node (nextBy m s b)
 more-by Mode.Gap node s b e space hash h = absurd h
 more-by Mode.Word node s b e space hash h =
     rw (space, hash, e) (cond-held node (isLetter b) (lettered s b) _ (lettered-held node s b h) h)
@@ -169,11 +169,11 @@ more-by Mode.Number node s b e space hash h =
 more-by Mode.Comment node s b e space hash h = absurd h
 more-by (Mode.Wrong f) node s b e space hash h = rw e h
 
-more-held : (node : ℕ) (s : Scan) (b : ℕ) → isSpace b ≡ false → isHash b ≡ false → Held node s → Held node (scanNext s b)
+more-held : (node : ℕ) (s : Scan) (b : ℕ) → isSpace b ≡ false → isHash b ≡ false → HeldAt node s → HeldAt node (scanNext s b)
 unfolding scanNext
 more-held node s b space hash h = more-by (s .mode) node s b refl space hash h
 
-all-held : (bs : List ℕ) (node : ℕ) (s : Scan) → Solid bs → Held node s → Held node (scanAll s bs)
+all-held : (bs : List ℕ) (node : ℕ) (s : Scan) → Solid bs → HeldAt node s → HeldAt node (scanAll s bs)
 unfolding scanAll
 all-held [] node s solid h = h
 all-held (b ∷ bs) node s solid h = all-held bs node (scanNext s b) (solid .2) (more-held node s b (solid .0) (solid .1) h)
@@ -186,13 +186,13 @@ held-stays Mode.Number here node from rest h = refl
 held-stays Mode.Comment here node from rest h = absurd h
 held-stays (Mode.Wrong f) here node from rest h = refl
 
-held-from : (bs rest from : List ℕ) (node : ℕ) (s : Scan) → Solid bs → Held node s → faultFrom s from (bs ++ rest) ≡ faultFrom (scanAll s bs) from rest
+held-at-from : (bs rest from : List ℕ) (node : ℕ) (s : Scan) → Solid bs → HeldAt node s → faultFrom s from (bs ++ rest) ≡ faultFrom (scanAll s bs) from rest
 unfolding faultFrom scanAll
-held-from [] rest from node s solid h = refl
-held-from (b ∷ bs) rest from node s solid h =
-    let next : Held node (scanNext s b) = more-held node s b (solid .0) (solid .1) h in
+held-at-from [] rest from node s solid h = refl
+held-at-from (b ∷ bs) rest from node s solid h =
+    let next : HeldAt node (scanNext s b) = more-held node s b (solid .0) (solid .1) h in
     ap (λ (l : List ℕ). faultFrom (scanNext s b) l (bs ++ rest)) (held-stays (scanNext s b .mode) (scanNext s b .node) node from (bs ++ rest) next)
-    ∙ held-from bs rest from node (scanNext s b) (solid .2) next
+    ∙ held-at-from bs rest from node (scanNext s b) (solid .2) next
 
 gap-wrong : (f : Fault) → Mode.Gap ≡ Mode.Wrong f → ⊥
 gap-wrong f e = let z : _≡_ {A = ℕ} 0 1 = cc in omega arith
@@ -212,7 +212,7 @@ wrong-by Mode.Number node s f e h w =
 wrong-by Mode.Comment node s f e h w = absurd h
 wrong-by (Mode.Wrong g) node s f e h w = h
 
-wrong-held : (node : ℕ) (s : Scan) (f : Fault) → Held node s → endOf s .mode ≡ Mode.Wrong f → endOf s .node ≡ node
+wrong-held : (node : ℕ) (s : Scan) (f : Fault) → HeldAt node s → endOf s .mode ≡ Mode.Wrong f → endOf s .node ≡ node
 wrong-held node s f h w = wrong-by (s .mode) node s f refl h w
 
 -- what follows it changes nothing
@@ -259,14 +259,14 @@ module _ (front rest : List ℕ) (node digits : ℕ) (bytes : List ℕ) (f : Fau
   fault-in-word [] plain solid e = absurd (gap-wrong f e)
   fault-in-word (b ∷ word) plain solid e =
       let gap = at Mode.Gap 0 node digits bytes in
-      let first : Held node (scanNext gap b) = first-held node digits bytes b plain (solid .0) (solid .1) in
-      let last : Held node (scanAll (scanNext gap b) word) = all-held word node (scanNext gap b) (solid .2) first in
+      let first : HeldAt node (scanNext gap b) = first-held node digits bytes b plain (solid .0) (solid .1) in
+      let last : HeldAt node (scanAll (scanNext gap b) word) = all-held word node (scanNext gap b) (solid .2) first in
       let line = b ∷ (word ++ rest) in
       let here : faultFrom blank (front ++ line) (front ++ line) ≡ line =
       fault-behind front line (ap (λ (s : Scan). s .mode) reached)
       ∙ ap (λ (s : Scan). faultFrom s line line) reached
       ∙ ap (λ (l : List ℕ). faultFrom (scanNext gap b) l (word ++ rest)) (held-stays (scanNext gap b .mode) (scanNext gap b .node) node line (word ++ rest) first)
-      ∙ held-from word rest line node (scanNext gap b) (solid .2) first
+      ∙ held-at-from word rest line node (scanNext gap b) (solid .2) first
       ∙ ended-from (scanAll (scanNext gap b) word) rest line f e ends in
       let place : endOf (scanAll blank (front ++ line)) .node ≡ node =
       ap (λ (s : Scan). endOf s .node) (scan-append blank front line ∙ ap (λ (s : Scan). scanAll s line) reached ∙ scan-append (scanNext gap b) word rest)

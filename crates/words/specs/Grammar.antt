@@ -234,8 +234,8 @@ abbrev pub putFour : ℕ → ℕ → List ℕ → List ℕ
 putFour field n bytes =
     set (set (putTwo field n bytes) (field + 2) (n / 65536 % 256)) (field + 3) (n / 16777216 % 256)
 
-abbrev pub stored : Slot → ℕ → List ℕ → List ℕ
-stored s n bytes =
+abbrev pub slotStored : Slot → ℕ → List ℕ → List ℕ
+slotStored s n bytes =
     cond
     (eqb (s .width) 1)
     (putOne (s .field) n bytes)

@@ -9,8 +9,8 @@ use lib.Dec.{ltb, eqb}
 use lib.ListN.{length, getD, length-append, length-set}
 use Rattle.rules.specs.LoopsLaws.{either, cond-keeps}
 use Rattle.words.specs.Types.{Slot, Fault, Mode, Scan, Verdict, Stop, Reader}
-use Rattle.words.specs.Grammar.{edgeCount, edgeOf, edgeAt, slotAt, mostIn, rawNode, said, putTwo, putFour, stored}
-use Rattle.words.specs.Scan.{isSpace, isHash, isLetter, isDigit, hexValue, at, blank, wrong, misplaced, followed, wordTaken, filled, numberTaken, endBy, endOf, notedBy, noted, hexTaken, hexNext, lettered, numbered, begun, byteBy, liveNext, nextBy, scanNext, verdictOf, lineMost, recordMost, linesMost, reading, stopped, judged, lineEnded, byteRead, nextWhile, readerNext, givesRecord, given, Read, unread, readNext, readAll, textRead}
+use Rattle.words.specs.Grammar.{edgeCount, edgeOf, edgeAt, slotAt, mostIn, rawNode, said, putTwo, putFour, slotStored}
+use Rattle.words.specs.Scan.{isSpace, isHash, isLetter, isDigit, hexValue, at, blank, wrong, misplaced, followed, wordTaken, filled, numberTaken, endBy, endOf, notedBy, noted, hexTaken, hexNext, lettered, numbered, tokenBegun, byteBy, liveNext, nextBy, scanNext, verdictOf, lineMost, recordMost, linesMost, reading, stopped, judged, lineEnded, byteRead, nextWhile, readerNext, givesRecord, given, Read, unread, readNext, readAll, textRead}
 use Rattle.words.specs.ReadLaws.{next-count, count-most}
 
 -- ---- a line
@@ -28,7 +28,7 @@ cond-long t x y n = cond-keeps (λ (s : Scan). Long s n) t x y
 said-long : (field value : ℕ) (bytes : List ℕ) → length (said field value bytes) ≡ length bytes
 said-long field value bytes = list-long (ltb field 16) _ bytes (length bytes) (length-set bytes field value) refl
 
-stored-long : (f : Slot) (n : ℕ) (bytes : List ℕ) → length (stored f n bytes) ≡ length bytes
+stored-long : (f : Slot) (n : ℕ) (bytes : List ℕ) → length (slotStored f n bytes) ≡ length bytes
 stored-long f n bytes =
     list-long (eqb (f .width) 1) _ _ (length bytes) (length-set bytes (f .field) n)
     (list-long (eqb (f .width) 2) (putTwo (f .field) n bytes) (putFour (f .field) n bytes) (length bytes) (simp length-set) (simp length-set))
@@ -44,7 +44,7 @@ unfolding numberTaken
 number-long s =
     let f = slotAt (s .node) in
     cond-long (eqb (f .width) 0) (misplaced s) (filled s f) (length (s .bytes)) refl
-    (cond-long (ltb (mostIn (f .width)) (s .token)) (wrong s Fault.TooLarge) (at Mode.Gap 0 (f .to) (s .digits) (stored f (s .token) (s .bytes))) (length (s .bytes)) refl (stored-long f (s .token) (s .bytes)))
+    (cond-long (ltb (mostIn (f .width)) (s .token)) (wrong s Fault.TooLarge) (at Mode.Gap 0 (f .to) (s .digits) (slotStored f (s .token) (s .bytes))) (length (s .bytes)) refl (stored-long f (s .token) (s .bytes)))
 
 end-by-long : (m : Mode) (s : Scan) → Long (endBy m s) (length (s .bytes))
 end-by-long Mode.Gap s = refl
@@ -76,7 +76,7 @@ numbered-long s b = cond-long (ltb 429496729 (s .token)) _ _ (length (s .bytes))
 
 byte-by-long : (m : Mode) (s : Scan) (b : ℕ) → Long (byteBy m s b) (length (s .bytes))
 byte-by-long Mode.Gap s b =
-    cond-long (eqb (s .node) rawNode) (hexNext s b) (begun s b) (length (s .bytes)) (hex-long s b)
+    cond-long (eqb (s .node) rawNode) (hexNext s b) (tokenBegun s b) (length (s .bytes)) (hex-long s b)
     (cond-long (isLetter b) (lettered s b) _ (length (s .bytes)) (lettered-long s b)
     (cond-long (isDigit b) (numbered s b) _ (length (s .bytes)) (numbered-long s b) refl))
 byte-by-long Mode.Word s b = cond-long (isLetter b) (lettered s b) _ (length (s .bytes)) (lettered-long s b) refl
@@ -124,15 +124,15 @@ unfolding readerNext
 reader-sixteen r b h = while-sixteen (r .stop) r b h
 
 -- what is so before a text and stays so
-pub record Kept (t : Read) : Type 0 where
+pub record KeptReader (t : Read) : Type 0 where
   pub sixteen : length (t .reader .scan .bytes) ≡ 16
   pub counted : length (t .records) ≡ 16 * t .reader .count
   pub most : t .reader .count ≤ 4095
 
-unread-kept : Kept unread
+unread-kept : KeptReader unread
 unread-kept = record { sixteen = refl; counted = refl; most = omega arith }
 
-next-counted : (t : Read) (b : ℕ) → Kept t → length (readNext t b .records) ≡ 16 * readNext t b .reader .count
+next-counted : (t : Read) (b : ℕ) → KeptReader t → length (readNext t b .records) ≡ 16 * readNext t b .reader .count
 unfolding readNext given
 next-counted t b k =
     ⊎-elim
@@ -143,7 +143,7 @@ next-counted t b k =
     rw (next-count (t .reader) b, length-append (t .records) (given (t .reader) b), g) (omega (arith, k .counted)))
     (either (givesRecord (t .reader) b))
 
-pub next-kept : (t : Read) (b : ℕ) → Kept t → Kept (readNext t b)
+pub next-kept : (t : Read) (b : ℕ) → KeptReader t → KeptReader (readNext t b)
 unfolding readNext
 next-kept t b k =
     record {
@@ -152,11 +152,11 @@ next-kept t b k =
       most = count-most (t .reader) b (k .most);
     }
 
-all-kept : (t : Read) (bs : List ℕ) → Kept t → Kept (readAll t bs)
+all-kept : (t : Read) (bs : List ℕ) → KeptReader t → KeptReader (readAll t bs)
 unfolding readAll
 all-kept t [] k = k
 all-kept t (b ∷ bs) k = all-kept (readNext t b) bs (next-kept t b k)
 
-pub text-kept : (text : List ℕ) → Kept (textRead text)
+pub text-kept : (text : List ℕ) → KeptReader (textRead text)
 unfolding textRead
 text-kept text = next-kept (readAll unread text) 10 (all-kept unread text unread-kept)

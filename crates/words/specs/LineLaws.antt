@@ -106,9 +106,9 @@ record Under (t : Read) (under bytes : List ℕ) : Type 0 where
   lines : readAll t bytes .reader .lines ≡ t .reader .lines + ended
   found : (rest : List ℕ) → linesPast ended (under ++ (bytes ++ rest)) ≡ now ++ rest
 
-one-more : (under : List ℕ) (b : ℕ) → OneLine under → eqb b 10 ≡ false → OneLine (under ++ (b ∷ []))
-one-more [] b one other = (other, tt)
-one-more (x ∷ under) b one other = (one .0, one-more under b (one .1) other)
+one-line-more : (under : List ℕ) (b : ℕ) → OneLine under → eqb b 10 ≡ false → OneLine (under ++ (b ∷ []))
+one-line-more [] b one other = (other, tt)
+one-line-more (x ∷ under) b one other = (one .0, one-line-more under b (one .1) other)
 
 byte-under :
     (newline : Bool) (t : Read) (under : List ℕ) (b : ℕ) (bytes : List ℕ) → eqb b 10 ≡ newline → OneLine under
@@ -131,7 +131,7 @@ byte-under true t under b bytes e one long lined more =
           ∙ u .found rest;
     }
 byte-under false t under b bytes e one long lined more =
-    let u : Under (readNext t b) (under ++ (b ∷ [])) bytes = more (under ++ (b ∷ [])) (one-more under b one e) (rw (length-append under (b ∷ [])) (omega (arith, lined .1, long))) in
+    let u : Under (readNext t b) (under ++ (b ∷ [])) bytes = more (under ++ (b ∷ [])) (one-line-more under b one e) (rw (length-append under (b ∷ [])) (omega (arith, lined .1, long))) in
     let l : readAll (readNext t b) bytes .reader .lines ≡ readerNext (t .reader) b .lines + u .ended = u .lines in
     record {
       now = u .now;

@@ -11,9 +11,9 @@ use lib.Dec.{ltb, eqb}
 use lib.ListN.{List·getD-eq-default}
 use Rattle.rules.specs.Loops.{everyUpTo}
 use Rattle.rules.specs.LoopsLaws.{either, every-at}
-use Rattle.rules.specs.RecordLaws.{Each, each-at}
+use Rattle.rules.specs.RecordLaws.{Each, each-row-at}
 use Rattle.words.specs.Types.{Slot, Fault, Mode, Scan, Verdict}
-use Rattle.words.specs.Grammar.{none, slots, slotAt, mostIn, rawNode, stored}
+use Rattle.words.specs.Grammar.{none, slots, slotAt, mostIn, rawNode, slotStored}
 use Rattle.words.specs.Scan.{isSpace, isHash, at, blank, numberTaken, endOf, scanNext, scanAll, verdictBy, verdictOf}
 use Rattle.words.specs.Spelling.{end-again, space-ends, wrong-stays, comment-verdict}
 use Rattle.words.specs.ScanLaws.{scan-append, digit-first, digit-more, most-in}
@@ -85,22 +85,22 @@ module _ (node digits : ℕ) (bytes : List ℕ) (takes : eqb (slotAt node .width
   unfolding numberTaken
   ends-large n more = rw (takes, lt-ltb (mostIn (slotAt node .width)) n more)
 
-  pub ends-stored : (n : ℕ) → n ≤ mostIn (slotAt node .width) → endOf (at Mode.Number n node digits bytes) ≡ at Mode.Gap 0 (slotAt node .to) digits (stored (slotAt node) n bytes)
+  pub ends-stored : (n : ℕ) → n ≤ mostIn (slotAt node .width) → endOf (at Mode.Number n node digits bytes) ≡ at Mode.Gap 0 (slotAt node .to) digits (slotStored (slotAt node) n bytes)
   unfolding numberTaken
   ends-stored n most = rw (takes, le-ltb (mostIn (slotAt node .width)) n most)
 
   -- a digit after more than four bytes hold
-  Past : ℕ → ℕ → Type 0
-  Past n d = scanNext (at Mode.Number n node digits bytes) (48 + d) ≡ at (Mode.Wrong Fault.TooLarge) 0 node digits bytes
+  PastNumber : ℕ → ℕ → Type 0
+  PastNumber n d = scanNext (at Mode.Number n node digits bytes) (48 + d) ≡ at (Mode.Wrong Fault.TooLarge) 0 node digits bytes
 
-  pasts : (n : ℕ) → ltb 429496729 n ≡ true → Each (Past n) 10
-  unfolding Past scanNext
+  pasts : (n : ℕ) → ltb 429496729 n ≡ true → Each (PastNumber n) 10
+  unfolding PastNumber scanNext
   pasts n full =
       ((((((((((tt, rw full), rw full), rw full), rw full), rw full), rw full), rw full), rw full), rw full), rw full)
 
   digit-past : (n d : ℕ) → 429496729 < n → d < 10 → scanNext (at Mode.Number n node digits bytes) (48 + d) ≡ at (Mode.Wrong Fault.TooLarge) 0 node digits bytes
-  unfolding Past
-  digit-past n d full h = each-at (Past n) 10 (pasts n (lt-ltb 429496729 n full)) d h
+  unfolding PastNumber
+  digit-past n d full h = each-row-at (PastNumber n) 10 (pasts n (lt-ltb 429496729 n full)) d h
 
   -- a digit where there is room
   digit-room : (n d : ℕ) → n ≤ 429496729 → d < 10 → scanNext (at Mode.Number n node digits bytes) (48 + d) ≡ at Mode.Number (n * 10 + d) node digits bytes
@@ -139,14 +139,14 @@ module _ (node digits : ℕ) (bytes : List ℕ) (takes : eqb (slotAt node .width
 
   pub digits-stored :
       (d : ℕ) (ds : List ℕ) → Digits (d ∷ ds) → valueFrom 0 (d ∷ ds) ≤ mostIn (slotAt node .width)
-      → endOf (scanAll (at Mode.Gap 0 node digits bytes) (digitText (d ∷ ds))) ≡ at Mode.Gap 0 (slotAt node .to) digits (stored (slotAt node) (valueFrom 0 (d ∷ ds)) bytes)
+      → endOf (scanAll (at Mode.Gap 0 node digits bytes) (digitText (d ∷ ds))) ≡ at Mode.Gap 0 (slotAt node .to) digits (slotStored (slotAt node) (valueFrom 0 (d ∷ ds)) bytes)
   unfolding scanAll
   digits-stored d ds all fits =
       let most : valueFrom d ds ≤ mostIn (slotAt node .width) = subst (λ (k : ℕ). valueFrom k ds ≤ mostIn (slotAt node .width)) (zero-add d) fits in
       ap (λ (s : Scan). endOf (scanAll s (digitText ds))) (digit-first node digits bytes (place-plain node takes) d (all .0))
       ∙ ap endOf (more-read ds d (all .1) (most-in (slotAt node .width) (valueFrom d ds) most))
       ∙ ends-stored (valueFrom d ds) most
-      ∙ ap (λ (k : ℕ). at Mode.Gap 0 (slotAt node .to) digits (stored (slotAt node) (valueFrom k ds) bytes)) (sym (zero-add d))
+      ∙ ap (λ (k : ℕ). at Mode.Gap 0 (slotAt node .to) digits (slotStored (slotAt node) (valueFrom k ds) bytes)) (sym (zero-add d))
 
 -- ---- a whole line
 

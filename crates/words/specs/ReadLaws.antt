@@ -26,21 +26,21 @@ one-count : (t : Bool) (x y : Reader) (n : ℕ) → x .count ≡ n + 1 → y .co
 one-count true x y n p q = p
 one-count false x y n p q = rw add-zero q
 
-abbrev Counts : Reader → ℕ → Type 0
-Counts r b = readerNext r b .count ≡ r .count + oneIf (givesRecord r b)
+abbrev CountsOn : Reader → ℕ → Type 0
+CountsOn r b = readerNext r b .count ≡ r .count + oneIf (givesRecord r b)
 
 module _ (r : Reader) (b : ℕ) (going : r .stop ≡ Stop.Going) where
-  byte-counts : eqb b 10 ≡ false → Counts r b
+  byte-counts : eqb b 10 ≡ false → CountsOn r b
   unfolding readerNext givesRecord
   byte-counts e =
       rw (going, e, add-zero (r .count))
       (same-count (ltb (r .length) lineMost) (reading (r .lines) (r .count) (r .length + 1) (scanNext (r .scan) b)) (stopped r Fault.LineTooLong) (r .count) refl refl)
 
-  many-counts : eqb b 10 ≡ true → ltb (r .lines) linesMost ≡ false → Counts r b
+  many-counts : eqb b 10 ≡ true → ltb (r .lines) linesMost ≡ false → CountsOn r b
   unfolding readerNext givesRecord
   many-counts e l = rw (going, e, l, add-zero (r .count))
 
-  line-counts : (v : Verdict) → eqb b 10 ≡ true → ltb (r .lines) linesMost ≡ true → verdictOf (endOf (r .scan)) ≡ v → Counts r b
+  line-counts : (v : Verdict) → eqb b 10 ≡ true → ltb (r .lines) linesMost ≡ true → verdictOf (endOf (r .scan)) ≡ v → CountsOn r b
   unfolding readerNext givesRecord
   line-counts Verdict.Blank e l w = rw (going, e, l, w, add-zero (r .count))
   line-counts (Verdict.Wrong f) e l w = rw (going, e, l, w, add-zero (r .count))
@@ -48,7 +48,7 @@ module _ (r : Reader) (b : ℕ) (going : r .stop ≡ Stop.Going) where
       rw (going, e, l, w)
       (one-count (ltb (r .count) recordMost) (reading (r .lines + 1) (r .count + 1) 0 blank) (stopped r Fault.TooManyLines) (r .count) refl refl)
 
-  going-counts : Counts r b
+  going-counts : CountsOn r b
   going-counts =
       ⊎-elim
       (λ e.
@@ -59,7 +59,7 @@ module _ (r : Reader) (b : ℕ) (going : r .stop ≡ Stop.Going) where
       (λ e. byte-counts e)
       (either (eqb b 10))
 
-counts-by : (stop : Stop) (r : Reader) (b : ℕ) → r .stop ≡ stop → Counts r b
+counts-by : (stop : Stop) (r : Reader) (b : ℕ) → r .stop ≡ stop → CountsOn r b
 unfolding readerNext givesRecord
 counts-by Stop.Going r b e = going-counts r b e
 counts-by (Stop.At f) r b e = rw (e, add-zero (r .count))

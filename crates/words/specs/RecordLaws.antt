@@ -11,7 +11,7 @@ use lib.ListN.{length, getD, set, length-append}
 use lib.Seq.{append-snoc, set-at, getD-at}
 use Rattle.rules.specs.Loops.{firstUpTo}
 use Rattle.rules.specs.Record.{stepOfRecord}
-use Rattle.rules.specs.RecordLaws.{Each, each-at, Bytes16, read-writes, read-fits}
+use Rattle.rules.specs.RecordLaws.{Each, each-row-at, Bytes16, read-writes, read-fits}
 use Rattle.rules.specs.Listing.{spelt}
 use Rattle.words.specs.Types.{Mode, Scan, Reading}
 use Rattle.words.specs.Grammar.{edgeAt}
@@ -37,7 +37,7 @@ module _ (k : ℕ) (bytes : List ℕ) (room : ltb k 32 ≡ true) where
       → scanNext (at Mode.Gap 0 30 k bytes) (hexDigit d)
       ≡ at Mode.Gap 0 30 (k + 1) (set bytes (k / 2) (getD bytes (k / 2) 0 % 16 * 16 + d))
   unfolding Hex
-  hex-digit-read d h = each-at Hex 16 hexes d h
+  hex-digit-read d h = each-row-at Hex 16 hexes d h
 
 -- two of them are a byte
 module _ (n x : ℕ) (front rest : List ℕ) (long : length front ≡ n) (room : n < 16) (byte : x < 256) where

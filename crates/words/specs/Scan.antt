@@ -5,7 +5,7 @@ use mathlib.Core.List.{List, [], _∷_, _++_}
 use lib.Dec.{leb, ltb, eqb}
 use lib.ListN.{getD, set}
 use Rattle.words.specs.Types.{Edge, Slot, Fault, Mode, Scan, Verdict, Stop, Reader}
-use Rattle.words.specs.Grammar.{edgeCount, edgeOf, edgeAt, slotAt, mostIn, rawNode, mayEnd, said, stored}
+use Rattle.words.specs.Grammar.{edgeCount, edgeOf, edgeAt, slotAt, mostIn, rawNode, mayEnd, said, slotStored}
 
 -- ---- bytes
 
@@ -68,7 +68,7 @@ filled s f =
     cond
     (ltb (mostIn (f .width)) (s .token))
     (wrong s Fault.TooLarge)
-    (at Mode.Gap 0 (f .to) (s .digits) (stored f (s .token) (s .bytes)))
+    (at Mode.Gap 0 (f .to) (s .digits) (slotStored f (s .token) (s .bytes)))
 
 unfoldable pub numberTaken : Scan → Scan
 numberTaken s =
@@ -122,8 +122,8 @@ numbered s b =
     (at Mode.Number (s .token * 10 + (b - 48)) (s .node) (s .digits) (s .bytes))
 
 -- the first byte of a word or a number
-abbrev pub begun : Scan → ℕ → Scan
-begun s b =
+abbrev pub tokenBegun : Scan → ℕ → Scan
+tokenBegun s b =
     cond
     (isLetter b)
     (lettered s b)
@@ -131,7 +131,7 @@ begun s b =
 
 -- any byte but a space and `#`
 abbrev pub byteBy : Mode → Scan → ℕ → Scan
-byteBy Mode.Gap s b = cond (eqb (s .node) rawNode) (hexNext s b) (begun s b)
+byteBy Mode.Gap s b = cond (eqb (s .node) rawNode) (hexNext s b) (tokenBegun s b)
 byteBy Mode.Word s b = cond (isLetter b) (lettered s b) (wrong s Fault.UnknownWord)
 byteBy Mode.Number s b = cond (isDigit b) (numbered s b) (wrong s Fault.UnknownWord)
 byteBy Mode.Comment s b = s

@@ -8,10 +8,10 @@ use mathlib.Core.List.{List, [], _∷_, _++_}
 use borrow.Author.Tests.{ltb-true, ltb-false, lt-ltb, le-ltb}
 use lib.Dec.{ltb, eqb}
 use Rattle.rules.specs.LoopsLaws.{either}
-use Rattle.rules.specs.RecordLaws.{Each, each-at}
+use Rattle.rules.specs.RecordLaws.{Each, each-row-at}
 use Rattle.rules.specs.Listing.{spelt, digitsOf}
 use Rattle.words.specs.Types.{Mode, Scan}
-use Rattle.words.specs.Grammar.{edgeCount, edgeOf, edgeAt, slotAt, mostIn, rawNode, said, stored}
+use Rattle.words.specs.Grammar.{edgeCount, edgeOf, edgeAt, slotAt, mostIn, rawNode, said, slotStored}
 use Rattle.words.specs.Scan.{at, wordTaken, numberTaken, endOf, scanNext, scanAll}
 use Rattle.words.specs.Say.{Token, wordText, numberText, tokenText, restText}
 use Rattle.words.specs.Spelling.{space-ends}
@@ -36,7 +36,7 @@ module _ (node digits : ℕ) (bytes : List ℕ) (plain : eqb node rawNode ≡ fa
 
   pub digit-first : (d : ℕ) → d < 10 → scanNext (at Mode.Gap 0 node digits bytes) (48 + d) ≡ at Mode.Number d node digits bytes
   unfolding First
-  digit-first d h = each-at First 10 firsts d h
+  digit-first d h = each-row-at First 10 firsts d h
 
   -- a digit more
   module _ (t : ℕ) (room : ltb 429496729 t ≡ false) where
@@ -50,7 +50,7 @@ module _ (node digits : ℕ) (bytes : List ℕ) (plain : eqb node rawNode ≡ fa
 
     pub digit-more : (d : ℕ) → d < 10 → scanNext (at Mode.Number t node digits bytes) (48 + d) ≡ at Mode.Number (t * 10 + d) node digits bytes
     unfolding More
-    digit-more d h = each-at More 10 mores d h
+    digit-more d h = each-row-at More 10 mores d h
 
   -- the digits of a number give the number
   digits-read :
@@ -93,7 +93,7 @@ placeAfter node (Token.Number n) = slotAt node .to
 
 abbrev pub bytesAfter : ℕ → Token → List ℕ → List ℕ
 bytesAfter node (Token.Word w) bytes = said (edgeOf (edgeAt node w) .field) (edgeOf (edgeAt node w) .value) bytes
-bytesAfter node (Token.Number n) bytes = stored (slotAt node) n bytes
+bytesAfter node (Token.Number n) bytes = slotStored (slotAt node) n bytes
 
 abbrev pub Fits : ℕ → Token → Type 0
 Fits node (Token.Word w) = WordReads node w

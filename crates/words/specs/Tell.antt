@@ -101,8 +101,8 @@ sheetBy SheetAnswer.TooShort text = refusedSheet SheetAnswer.TooShort
 sheetBy SheetAnswer.BadMark text = refusedSheet SheetAnswer.BadMark
 sheetBy SheetAnswer.BadDistance text = refusedSheet SheetAnswer.BadDistance
 
-unfoldable pub toldOf : List ℕ → List ℕ
-toldOf sheet = sheetBy (sheetAnswer sheet) (toldUpTo (sheetRecords sheet) (length (sheetRecords sheet) / 16))
+unfoldable pub sheetTold : List ℕ → List ℕ
+sheetTold sheet = sheetBy (sheetAnswer sheet) (toldUpTo (sheetRecords sheet) (length (sheetRecords sheet) / 16))
 
 unfoldable pub plainOf : List ℕ → List ℕ
 plainOf sheet = sheetBy (sheetAnswer sheet) (plainUpTo (sheetRecords sheet) (length (sheetRecords sheet) / 16))

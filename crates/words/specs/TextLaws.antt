@@ -24,32 +24,32 @@ use Rattle.words.specs.RecordLaws.{record-says}
 
 -- ---- the writer's bytes are no newlines
 
-abbrev pub Plain : List ℕ → Type 0
-Plain [] = Unit {0}
-Plain (b ∷ bs) = (10 < b) × Plain bs
+abbrev pub PlainText : List ℕ → Type 0
+PlainText [] = Unit {0}
+PlainText (b ∷ bs) = (10 < b) × PlainText bs
 
-plain-append : (xs ys : List ℕ) → Plain xs → Plain ys → Plain (xs ++ ys)
+plain-append : (xs ys : List ℕ) → PlainText xs → PlainText ys → PlainText (xs ++ ys)
 plain-append [] ys p q = q
 plain-append (x ∷ xs) ys p q = (p .0, plain-append xs ys (p .1) q)
 
-plain-cond : (t : Bool) (xs ys : List ℕ) → Plain xs → Plain ys → Plain (cond t xs ys)
-plain-cond = cond-keeps Plain
+plain-cond : (t : Bool) (xs ys : List ℕ) → PlainText xs → PlainText ys → PlainText (cond t xs ys)
+plain-cond = cond-keeps PlainText
 
-plain-spelt : (base first k n : ℕ) → 10 < first → Plain (spelt base first k n)
+plain-spelt : (base first k n : ℕ) → 10 < first → PlainText (spelt base first k n)
 unfolding spelt
 plain-spelt base first zero n h = tt
 plain-spelt base first (suc k) n h =
     plain-cond (ltb n base) ((first + n) ∷ []) (spelt base first k (n / base) ++ ((first + n % base) ∷ [])) (omega arith, tt)
     (plain-append (spelt base first k (n / base)) ((first + n % base) ∷ []) (plain-spelt base first k (n / base) h) (omega arith, tt))
 
-plain-word : (w : ℕ) → Plain (wordText w)
+plain-word : (w : ℕ) → PlainText (wordText w)
 plain-word w = plain-spelt 32 96 9 w (omega arith)
 
-plain-token : (t : Token) → Plain (tokenText t)
+plain-token : (t : Token) → PlainText (tokenText t)
 plain-token (Token.Word w) = plain-word w
 plain-token (Token.Number n) = plain-spelt 10 48 10 n (omega arith)
 
-plain-rest : (ts : List Token) → Plain (restText ts)
+plain-rest : (ts : List Token) → PlainText (restText ts)
 plain-rest [] = tt
 plain-rest (t ∷ ts) = (omega arith, plain-append (tokenText t) (restText ts) (plain-token t) (plain-rest ts))
 
@@ -57,19 +57,19 @@ hex-past : (t : Bool) (d : ℕ) → 10 < cond t (48 + d) (87 + d)
 hex-past true d = omega arith
 hex-past false d = omega arith
 
-plain-hex : (xs : List ℕ) → Plain (hexText xs)
+plain-hex : (xs : List ℕ) → PlainText (hexText xs)
 unfolding hexText
 plain-hex [] = tt
 plain-hex (x ∷ xs) =
     (hex-past (ltb (x / 16) 10) (x / 16), (hex-past (ltb (x % 16) 10) (x % 16), plain-hex xs))
 
-plain-by : (r : Reading) (b : List ℕ) → Plain (recordBy r b)
+plain-by : (r : Reading) (b : List ℕ) → PlainText (recordBy r b)
 unfolding stepText rawText
 plain-by Reading.Nothing b = plain-append (wordText rawWord) (32 ∷ hexText b) (plain-word rawWord) (omega arith, plain-hex b)
 plain-by (Reading.Known s) b =
     plain-append (wordText (firstWord s)) (restText (moreTokens s)) (plain-word (firstWord s)) (plain-rest (moreTokens s))
 
-pub plain-record : (b : List ℕ) → Plain (recordText b)
+pub plain-record : (b : List ℕ) → PlainText (recordText b)
 unfolding recordText
 plain-record b = plain-by (stepOfRecord b) b
 
@@ -78,7 +78,7 @@ abbrev pub OneLine : List ℕ → Type 0
 OneLine [] = Unit {0}
 OneLine (b ∷ bs) = (eqb b 10 ≡ false) × OneLine bs
 
-plain-one : (xs : List ℕ) → Plain xs → OneLine xs
+plain-one : (xs : List ℕ) → PlainText xs → OneLine xs
 plain-one [] p = tt
 plain-one (x ∷ xs) p = (let past : 10 < x = p .0 in ne-eqb x 10 (λ e. omega arith), plain-one xs (p .1))
 

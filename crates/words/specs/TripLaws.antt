@@ -11,7 +11,7 @@ use lib.Dec.{ltb, eqb}
 use lib.ListN.{length, getD, take, drop, take-append-drop, length-drop}
 use lib.Seq.{getD-drop, drop-drop, ext-getD}
 use Rattle.rules.specs.LoopsLaws.{and-left, and-right, either}
-use Rattle.rules.specs.RecordLaws.{each-at}
+use Rattle.rules.specs.RecordLaws.{each-row-at}
 use Rattle.rules.specs.declared.steps.SheetAnswer.{SheetAnswer}
 use Rattle.rules.specs.Record.{stepOfRecord}
 use Rattle.rules.specs.Sheet.{trailerAt, distanceOf, sheetAnswer, sheetRecords, recordsUpTo}
@@ -113,7 +113,7 @@ module _ (b : List ℕ) (byte : (i : ℕ) → getD b i 0 < 256) (e : sheetAnswer
       let b1 : getD b (trailerAt b + 1) 0 < 256 = byte (trailerAt b + 1) in
       let b2 : getD b (trailerAt b + 2) 0 < 256 = byte (trailerAt b + 2) in
       let b3 : getD b (trailerAt b + 3) 0 < 256 = byte (trailerAt b + 3) in
-      each-at (λ i. getD b (trailerAt b + i) 0 ≡ getD (trailerOf (distanceOf b)) i 0) 8
+      each-row-at (λ i. getD b (trailerAt b + i) 0 ≡ getD (trailerOf (distanceOf b)) i 0) 8
       ((((((((tt, ap (λ (i : ℕ). getD b i 0) (add-zero (trailerAt b)) ∙ omega arith), omega arith), omega arith), omega arith), eqb-true (getD b (trailerAt b + 4) 0) 80 (marked .0)), eqb-true (getD b (trailerAt b + 5) 0) 65 (marked .1)), eqb-true (getD b (trailerAt b + 6) 0) 83 (marked .2)), eqb-true (getD b (trailerAt b + 7) 0) 83 (marked .3))
 
   trailer-there : drop (trailerAt b) b ≡ trailerOf (distanceOf b)

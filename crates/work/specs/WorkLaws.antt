@@ -142,8 +142,8 @@ rest-asked t (Step.Retire h) m found seen f = rw (f refl)
 
 -- ---- a turn as a runner makes it: look, decide, store
 
-abbrev pub placesAt : ℕ → ℕ → ℕ → ℕ → Places
-placesAt s p b m = record { site = s; slot = p; bank = b; message = m }
+abbrev pub placesBy : ℕ → ℕ → ℕ → ℕ → Places
+placesBy s p b m = record { site = s; slot = p; bank = b; message = m }
 
 abbrev turnPlaces : Look → ℕ → Tables → Places
 turnPlaces look place t =
@@ -234,8 +234,8 @@ reading-turns t Reading.Nothing = refl
 reading-turns t (Reading.Known step) = refl
 
 -- a later turn is told from the first
-later : (k : ℕ) → eqb (suc k) 0 ≡ false
-later k = ne-eqb (suc k) 0 (λ e. omega arith)
+later-turn : (k : ℕ) → eqb (suc k) 0 ≡ false
+later-turn k = ne-eqb (suc k) 0 (λ e. omega arith)
 
 one-less : (k : ℕ) → suc k - 1 ≡ k
 one-less k = omega arith
@@ -260,7 +260,7 @@ pub record Turned (r : Reading) (empty : ℕ) (rest : Bool) (t : Tables) (before
   pub slot : p ≡ slotPlace (look .slot) (messageAt t m)
   pub site : s ≡ sitePlace (look .site) (messageAt t m) (passageAt t p)
   pub bank : b ≡ bankPlace (look .site) (messageAt t m) s
-  pub decided : d ≡ turnDone r (readingLook r .trip) turn (record { place = m; remains = rest }) before (seenOf t (placesAt s p b m))
+  pub decided : d ≡ turnDone r (readingLook r .trip) turn (record { place = m; remains = rest }) before (seenOf t (placesBy s p b m))
 
 pub working-starts : (t : Tables) (r : Reading) → Working t r t (Answer.Refused Refusal.NoStep) 0 1
 unfolding workUpTo
@@ -298,13 +298,13 @@ module _ (t₀ : Tables) (r : Reading) (t : Tables) (answer : Answer) where
       → (scanCount r ≡ 32 → empty ≡ lowestEmpty t₀)
       → (scanCount r ≡ 32 → rest ≡ remains t₀ (slotPlace (readingLook r .slot) (messageAt t₀ 0)))
       → Turned r empty rest t answer turn look m p s b d
-      → workUpTo t₀ r (suc turn) ≡ made t (placesAt s p b m) d
+      → workUpTo t₀ r (suc turn) ≡ made t (placesBy s p b m) d
   unfolding workUpTo
   turned-done empty rest zero last look m p s b d w l e f u =
       rw (u .decided, u .bank, u .site, u .slot, u .mail, u .looked, ← working-first last w) (sym (first-turn t₀ r empty rest e f))
   turned-done empty rest (suc k) last look m p s b d w l e f u =
       let h : last ≤ 17 = working-most (suc k) last w in
-      rw (u .decided, u .bank, u .site, u .slot, u .mail, u .looked, later k, one-less k) (ap (turnOf (readingLook r .trip) k) (w .done) ∙ sym (slot-turn (readingLook r .trip) k t answer (omega arith)))
+      rw (u .decided, u .bank, u .site, u .slot, u .mail, u .looked, later-turn k, one-less k) (ap (turnOf (readingLook r .trip) k) (w .done) ∙ sym (slot-turn (readingLook r .trip) k t answer (omega arith)))
 
   pub working-next :
       (empty : ℕ) (rest : Bool) (turn last : ℕ) (look : Look) (m p s b : ℕ) (d : Decision)
@@ -313,15 +313,15 @@ module _ (t₀ : Tables) (r : Reading) (t : Tables) (answer : Answer) where
       → (scanCount r ≡ 32 → empty ≡ lowestEmpty t₀)
       → (scanCount r ≡ 32 → rest ≡ remains t₀ (slotPlace (readingLook r .slot) (messageAt t₀ 0)))
       → Turned r empty rest t answer turn look m p s b d
-      → Working t₀ r (stored t (placesAt s p b m) (d .left)) (d .answer) (turn + 1) (1 + turnCount (readingLook r .trip) (d .answer))
+      → Working t₀ r (stored t (placesBy s p b m) (d .left)) (d .answer) (turn + 1) (1 + turnCount (readingLook r .trip) (d .answer))
   working-next empty rest turn last look m p s b d w l e f u =
-      let q : workUpTo t₀ r (suc turn) ≡ made t (placesAt s p b m) d =
+      let q : workUpTo t₀ r (suc turn) ≡ made t (placesBy s p b m) d =
       turned-done empty rest turn last look m p s b d w l e f u in
       rw (add-one turn) (record { done = q; end = refl; most = enough turn w l q })
     where
       enough :
           (turn : ℕ) → Working t₀ r t answer turn last → turn < last
-          → workUpTo t₀ r (suc turn) ≡ made t (placesAt s p b m) d
+          → workUpTo t₀ r (suc turn) ≡ made t (placesBy s p b m) d
           → suc turn ≤ 1 + turnCount (readingLook r .trip) (d .answer)
       enough zero w l q = omega arith
       enough (suc k) w l q =

@@ -1,4 +1,4 @@
-use Rattle.buffer.proofs.Pieces.{one-more}
+use Rattle.buffer.proofs.Pieces.{one-byte-more}
 use Rattle.buffer.specs.Text.{Puts, put-none}
 use lib.Seq.{take-length}
 use lib.ListN.{length, take, length-set}
@@ -20,7 +20,7 @@ loop-holds : tie.Need-loop-holds Inv-loop μ-loop
 loop-holds c = (rw add-zero (put-none (c .args .out .now) (c .args .at)), search needs, refl)
 
 loop-again : tie.Need-loop-again Inv-loop μ-loop
-loop-again c = (one-more (c .before .before .before .args .out .now) (c .before .before .loop .out) (c .before .before .before .args .text .now) (c .before .before .before .args .at) (c .before .before .loop .i) (omega arith) (search needs) (omega arith) (c .before .before .loop .inv .0), search needs, length-set (c .before .before .loop .out) (c .before .before .before .args .at + c .before .before .loop .i) _ ∙ c .before .before .loop .inv .2)
+loop-again c = (one-byte-more (c .before .before .before .args .out .now) (c .before .before .loop .out) (c .before .before .before .args .text .now) (c .before .before .before .args .at) (c .before .before .loop .i) (omega arith) (search needs) (omega arith) (c .before .before .loop .inv .0), search needs, length-set (c .before .before .loop .out) (c .before .before .before .args .at + c .before .before .loop .i) _ ∙ c .before .before .loop .inv .2)
 
 same-length : tie.Need-same-length Inv-loop μ-loop
 same-length c = c .before .loop .inv .2

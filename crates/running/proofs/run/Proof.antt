@@ -14,7 +14,7 @@ use Rattle.rules.specs.Listing.{printedUpTo}
 use Rattle.buffer.specs.Text.{Puts, put-none}
 use Rattle.decisions.specs.TurnsLaws.{turn-count-most}
 use Rattle.work.specs.Work.{readingLook, scanCount}
-use Rattle.work.specs.WorkLaws.{placesAt, scan-most, Working, Turned, working-starts, working-counts, working-most, working-sane, working-next, working-done, rest-found}
+use Rattle.work.specs.WorkLaws.{placesBy, scan-most, Working, Turned, working-starts, working-counts, working-most, working-sane, working-next, working-done, rest-found}
 use Rattle.running.specs.Answered.{answeredUpTo}
 use Rattle.running.proofs.Printed.{printed-in-range, outcome-next, answered-next}
 use Rattle.running.proofs.run.Statement.{statement}
@@ -90,7 +90,7 @@ decide-turn-requires c κs =
     let part = loop .before .before .before .before .args .part .now in
     let h : work .last ≤ 17 = working-most _ _ _ _ (work .turn) _ (work .inv) in (
       working-sane _ _ _ _ (work .turn) _
-          (placesAt (sited .site-place .result) (slotted .slot-place2 .result) (banked .bank-place .result) (mailed .mail-place .result))
+          (placesBy (sited .site-place .result) (slotted .slot-place2 .result) (banked .bank-place .result) (mailed .mail-place .result))
           (work .inv)
           (rw (loop .loop .inv .0) (printed-in-range part (loop .loop .i)))
           (record {

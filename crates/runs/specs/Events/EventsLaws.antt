@@ -79,10 +79,10 @@ module _ (p k : ℕ) where
 
 module _ (t : Tables) (step : Step) (p k : ℕ) where
   -- another slot, or another object
-  freed-other :
+  freed-elsewhere :
       (slot object : ℕ) (held : Bool) → (eqb slot p && eqb object k) ≡ false → heldOver (freedAt t step slot object) p k held ≡ held
   unfolding heldOver
-  freed-other slot object held e = both (isFreed t step slot object)
+  freed-elsewhere slot object held e = both (isFreed t step slot object)
     where
       both : (b : Bool) → heldOver (cond b (eventIn t step EventKind.Freed slot object ∷ []) []) p k held ≡ held
       both true = rw e
@@ -111,7 +111,7 @@ module _ (t : Tables) (step : Step) (p k : ℕ) where
       16
       p
       l
-      (λ slot h n. over-none p k _ 4 (λ i g b. freed-other slot _ g (rw (ne-eqb slot p n))) h)
+      (λ slot h n. over-none p k _ 4 (λ i g b. freed-elsewhere slot _ g (rw (ne-eqb slot p n))) h)
       held
       ∙ over-one
       p
@@ -121,7 +121,7 @@ module _ (t : Tables) (step : Step) (p k : ℕ) where
       (k % 4)
       (omega arith)
       (λ i h n.
-      freed-other
+      freed-elsewhere
       p
       _
       h
@@ -146,7 +146,7 @@ module _ (t : Tables) (step : Step) (p k : ℕ) where
       _
       4
       (λ i g b.
-      freed-other
+      freed-elsewhere
       slot
       _
       g

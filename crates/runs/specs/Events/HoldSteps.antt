@@ -108,7 +108,7 @@ TripAt (Trip.Sweep site) s = site % 8 ≡ s
 TripAt (Trip.Crash site) s = site % 8 ≡ s
 
 -- a call: it took its object, which stands at the acting site
-pub record Took (t : Tables) (step : Step) (c : Call) (left : Seen) : Type 0 where
+pub record Takes (t : Tables) (step : Step) (c : Call) (left : Seen) : Type 0 where
   pub acts : actsAtSite step ≡ true
   pub trip : lookOf step .trip ≡ Trip.Nowhere
   pub delivers : deliveredOf t step ≡ bodyEvents t step (placesOf t (lookOf step) .slot) (Body.Call c)
@@ -132,7 +132,7 @@ pub record Idle (t : Tables) (step : Step) (left : Seen) : Type 0 where
   pub stays : left .objects ≡ bankAt t (placesOf t (lookOf step) .bank)
 
 pub data Did (t : Tables) (step : Step) (left : Seen) : Type 0 where
-  took : (c : Call) → Took t step c left → Did t step left
+  took : (c : Call) → Takes t step c left → Did t step left
   let-go : LetGo t step left → Did t step left
   idle : Idle t step left → Did t step left
 

@@ -22,7 +22,7 @@ use Rattle.runs.specs.Types.{Call, Tables, Step, Outcome, Places, Seen}
 use Rattle.runs.specs.Walk.Put.{same-or-other}
 use Rattle.runs.specs.Walk.Steps.{accepted-turned}
 use Rattle.runs.specs.Walk.Sound.{Sound, sound-head, sound-turn}
-use Rattle.runs.specs.Events.HoldSteps.{and-false, AllLetGo, TakesIn, TripAt, Took, LetGo, Idle, swept-lets-go}
+use Rattle.runs.specs.Events.HoldSteps.{and-false, AllLetGo, TakesIn, TripAt, Takes, LetGo, Idle, swept-lets-go}
 
 -- ---- the store
 
@@ -123,11 +123,11 @@ turns-let-go trip s o (suc n) at l z =
 -- ---- the step
 
 -- no turns
-no-turns :
+none-turned :
     (t : Tables) (step : Step) → lookOf step .trip ≡ Trip.Nowhere → isAccepted (stepOf t step .answer) ≡ true
     → stepOf t step .tables ≡ headOf t step .tables
 unfolding turnsUpTo
-no-turns t step n a =
+none-turned t step n a =
     ap (λ (o : Outcome). o .tables) (accepted-turned t step a)
     ∙ ap (λ (x : Trip). turnsUpTo x (headOf t step) (turnCount x (headOf t step .answer)) .tables) n
 
@@ -138,13 +138,13 @@ leftBy t step =
 
 module _ (t : Tables) (step : Step) (z : Sound t) (a : isAccepted (stepOf t step .answer) ≡ true) where
   pub step-takes :
-      (c : Call) → Took t step c (leftBy t step) → (p k : ℕ)
+      (c : Call) → Takes t step c (leftBy t step) → (p k : ℕ)
       → isHolding (stepOf t step .tables) p k
       ≡ ((eqb (placesOf t (lookOf step) .slot) p && eqb (c .object) k) || isHolding t p k)
   unfolding headOf
   step-takes c f p k =
       rw
-      (no-turns t step (f .trip) a)
+      (none-turned t step (f .trip) a)
       (stored-takes t (placesOf t (lookOf step)) (leftBy t step) (z .sized) (placed-places t (lookOf step)) c (f .bank) (f .takes) p k)
 
   pub step-lets-go : LetGo t step (leftBy t step) → LetsGoAt (placesOf t (lookOf step) .site) t (stepOf t step .tables)
@@ -175,5 +175,5 @@ module _ (t : Tables) (step : Step) (z : Sound t) (a : isAccepted (stepOf t step
   unfolding headOf
   holding-after-idle f p k =
       rw
-      (no-turns t step (f .trip) a)
+      (none-turned t step (f .trip) a)
       (holding-after-stored t (placesOf t (lookOf step)) (leftBy t step) (z .sized) (placed-places t (lookOf step)) (f .stays) p k)

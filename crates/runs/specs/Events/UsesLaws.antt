@@ -148,12 +148,12 @@ pub use-counts-retires : (t₀ : Tables) (ss : List Step) (p : ℕ) → useOf t�
 unfolding useOf
 use-counts-retires t₀ ss p = uses-count t₀ (λ q. 0) ss p ∙ zero-add _
 
-generation-start : (p : ℕ) → generationAt start p ≡ 0
+generation-zero : (p : ℕ) → generationAt start p ≡ 0
 unfolding start
-generation-start = repeat-has (λ (x : Passage). x .generation ≡ 0) 16 (freeSlot 0) pastPassage refl refl
+generation-zero = repeat-has (λ (x : Passage). x .generation ≡ 0) 16 (freeSlot 0) pastPassage refl refl
 
 generation-started : {t₀ : Tables} → Started t₀ → (p : ℕ) → generationAt t₀ p ≡ 0
-generation-started fresh p = rw (fresh .empty) (generation-start p)
+generation-started fresh p = rw (fresh .empty) (generation-zero p)
 
 -- the generation byte is what it leaves over 256: the same again after 256 retires, and the use is not
 pub generation-is-use : {t₀ : Tables} → Started t₀ → (ss : List Step) (p : ℕ) → generationAt (runOf t₀ ss) p ≡ useOf t₀ ss p % 256

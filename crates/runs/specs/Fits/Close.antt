@@ -14,7 +14,7 @@ use Rattle.rules.specs.Ranges.{inRange, phaseFits}
 use Rattle.runs.specs.Types.{Kind, Phase, Visit, Tables, Step}
 use Rattle.runs.specs.Walk.Says.{isBinding}
 use Rattle.runs.specs.Walk.Plain.{when-true, when-false}
-use Rattle.runs.specs.Times.View.{View, Ledger, viewOf, noted}
+use Rattle.runs.specs.Times.View.{View, Ledger, viewOf, ledgerNoted}
 use Rattle.runs.specs.Times.Clauses.{Holds}
 use Rattle.runs.specs.Kept.Visit.{withVisit, withLast}
 use Rattle.runs.specs.Kept.Times.{holds-after-told-refresh, holds-after-told-terminate}
@@ -27,18 +27,18 @@ use Rattle.runs.specs.Fits.Shared.{moved, holds-after-moved, holds-after
 module _ (w : View) (l : Ledger) (a source : ℕ) (h : Holds w l)
     (one : w .passage .round .phase ≡ Phase.One) (closed : isClosed (w .passage .round) ≡ true) where
   abbrev Left : Visit → Type 0
-  Left v = Holds (withVisit (closedView w) a v) (noted l a source v)
+  Left v = Holds (withVisit (closedView w) a v) (ledgerNoted l a source v)
 
   -- with a visit there, whose new record is there too
-  later : (v : Visit) → w .visit a .there ≡ true → v .there ≡ true → Holds (withVisit (closedView w) a v) (withLast l a v) → Left v
-  later v was there k = rw (noted-there l a source v there (h .mirror a was .0)) k
+  after-told : (v : Visit) → w .visit a .there ≡ true → v .there ≡ true → Holds (withVisit (closedView w) a v) (withLast l a v) → Left v
+  after-told v was there k = rw (noted-there l a source v there (h .mirror a was .0)) k
 
-  told-home :
+  told-at-home :
       (kind : Kind) → w .passage .round .kind ≡ kind → kind ≢ Kind.None → w .visit a .there ≡ true
       → Left (toldVisit (toldOf kind (largestQuiesce (w .passage .round))) (w .visit a))
-  told-home Kind.None e n was = absurd (n refl)
-  told-home (Kind.Refresh q r) e n was =
-      later
+  told-at-home Kind.None e n was = absurd (n refl)
+  told-at-home (Kind.Refresh q r) e n was =
+      after-told
       _
       was
       was
@@ -52,8 +52,8 @@ module _ (w : View) (l : Ledger) (a source : ℕ) (h : Holds w l)
       (holds-after-closed w l h one closed .passage .refresh-two q r refl e)
       (λ y. false≢true (sym (ap isBinding e) ∙ y .binding))
       (λ y. absurd (false≢true (sym (ap isBinding e) ∙ y))))
-  told-home Kind.Terminate e n was =
-      later
+  told-at-home Kind.Terminate e n was =
+      after-told
       _
       was
       was
@@ -66,7 +66,7 @@ module _ (w : View) (l : Ledger) (a source : ℕ) (h : Holds w l)
       was
       (closed-is-quiet w l h one closed (ap isBinding e))
       (closed-largest w l h one closed (ap isBinding e)))
-  told-home Kind.Prepare e n was =
+  told-at-home Kind.Prepare e n was =
       rw
       (noted-gone l a source noVisit refl)
       (holds-after-went
@@ -86,13 +86,13 @@ module _ (w : View) (l : Ledger) (a source : ℕ) (h : Holds w l)
       w .passage .round .kind ≢ Kind.None
       → Holds
       (withVisit (closedView w) a (whereThere (w .visit a) (toldVisit (roundTold (w .passage .round)) (w .visit a))))
-      (noted l a source (whereThere (w .visit a) (toldVisit (roundTold (w .passage .round)) (w .visit a))))
+      (ledgerNoted l a source (whereThere (w .visit a) (toldVisit (roundTold (w .passage .round)) (w .visit a))))
   told-or-stay n = go (either (w .visit a .there))
     where
       go :
           (w .visit a .there ≡ true) ⊎ (w .visit a .there ≡ false)
           → Left (cond (w .visit a .there) (toldVisit (roundTold (w .passage .round)) (w .visit a)) (w .visit a))
-      go (inl e) = when-true Left (w .visit a .there) _ _ e (told-home (w .passage .round .kind) refl n e)
+      go (inl e) = when-true Left (w .visit a .there) _ _ e (told-at-home (w .passage .round .kind) refl n e)
       go (inr e) = when-false Left (w .visit a .there) _ _ e stay-home
 
 -- ---- the step
@@ -117,7 +117,7 @@ close-left :
     (whereThere (w .visit a) (toldVisit (roundTold (w .passage .round)) (w .visit a)))
     c
     (w .mail k))
-    (noted l a source (whereThere (w .visit a) (toldVisit (roundTold (w .passage .round)) (w .visit a))))
+    (ledgerNoted l a source (whereThere (w .visit a) (toldVisit (roundTold (w .passage .round)) (w .visit a))))
 close-left w l a k c source h i one closed kind =
     mail-back
     w

@@ -17,7 +17,7 @@ use Rattle.rules.specs.FineLaws.{invoke-empty}
 use Rattle.rules.specs.RangesLaws.{placed-places}
 use Rattle.runs.specs.Types.{Call, Body, Message, Tables, Step, Places}
 use Rattle.runs.specs.Walk.Put.{put, put-same}
-use Rattle.runs.specs.Times.View.{View, Ledger, viewOf, noLedger, noted, relast}
+use Rattle.runs.specs.Times.View.{View, Ledger, viewOf, noLedger, ledgerNoted, relast}
 use Rattle.runs.specs.Times.Clauses.{Holds}
 use Rattle.runs.specs.Kept.Calls.{holds-after-invoked}
 use Rattle.runs.specs.Times.Store.{nextLedger, leftView, Fitting, own-mail, empty-mail, noted-there}
@@ -31,11 +31,11 @@ holds-after-invoke :
     → call .quiesce ≡ w .visit a .quiesce → call .release ≡ w .visit a .release → call .round ≡ w .visit a .round
     → Holds
     (leftView w a k (w .passage) (countSent (w .visit a) d) c (plainMessage (Body.Call call) a d handle c))
-    (cond (isFree (w .passage .status)) noLedger (noted l a source (countSent (w .visit a) d)))
+    (cond (isFree (w .passage .status)) noLedger (ledgerNoted l a source (countSent (w .visit a) d)))
 holds-after-invoke w l a k d handle c source call h i there early empty kin din quiesce release round =
     holds-after-news
     (leftView w a k (w .passage) (countSent (w .visit a) d) c (plainMessage (Body.Call call) a d handle c))
-    (noted l a source (countSent (w .visit a) d))
+    (ledgerNoted l a source (countSent (w .visit a) d))
     (put l a (relast (l a) (countSent (w .visit a) d)))
     (noted-there l a source (countSent (w .visit a) d) there (h .mirror a there .0))
     (holds-after-invoked

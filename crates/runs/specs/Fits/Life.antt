@@ -18,7 +18,7 @@ use Rattle.rules.specs.Machine.{lookOf, placesOf, seenOf, isMessageOf, remains}
 use Rattle.rules.specs.Views.{empty-says}
 use Rattle.runs.specs.Types.{Status, Body, Tables, Step}
 use Rattle.runs.specs.Walk.Put.{put, put-all}
-use Rattle.runs.specs.Times.View.{View, Ledger, mailOf, viewOf, noLedger, noted, notedPast, firstSeen}
+use Rattle.runs.specs.Times.View.{View, Ledger, mailOf, viewOf, noLedger, ledgerNoted, notedPast, firstSeen}
 use Rattle.runs.specs.Times.Clauses.{Holds}
 use Rattle.runs.specs.Kept.Life.{holds-of-free, holds-after-begun}
 use Rattle.runs.specs.Times.Store.{leftView, Fitting}
@@ -47,11 +47,11 @@ begin-left :
     → w .passage .status ≡ Status.Free → q ≤ r
     → Holds
     (leftView w a k (begunPassage home (w .passage)) (newVisit q r 0) c (w .mail k))
-    (noted l a source (newVisit q r 0))
+    (ledgerNoted l a source (newVisit q r 0))
 begin-left w l a k c home q r source h i e place free times =
     subst
     (λ (x : ℕ).
-    Holds (leftView w a k (begunPassage x (w .passage)) (newVisit q r 0) c (w .mail k)) (noted l a source (newVisit q r 0)))
+    Holds (leftView w a k (begunPassage x (w .passage)) (newVisit q r 0) c (w .mail k)) (ledgerNoted l a source (newVisit q r 0)))
     e
     (mail-back
     w

@@ -15,7 +15,7 @@ use Rattle.rules.specs.declared.looking.MailAt.{MailAt}
 use Rattle.runs.specs.Types.{Kind, Status, Tables}
 use Rattle.runs.specs.Walk.Says.{isRefresh, isPrepare}
 use Rattle.runs.specs.Walk.Put.{put, put-same}
-use Rattle.runs.specs.Times.View.{View, Ledger, viewOf, noted}
+use Rattle.runs.specs.Times.View.{View, Ledger, viewOf, ledgerNoted}
 use Rattle.runs.specs.Times.Clauses.{Holds}
 use Rattle.runs.specs.Kept.Open.{holds-after-opened}
 use Rattle.runs.specs.Kept.Times.{asked-says}
@@ -45,7 +45,7 @@ open-home :
     (askedVisit (askedOf kind) (w .passage .round .number + 1) c (w .visit (w .passage .home)))
     c
     (w .mail k))
-    (noted l (w .passage .home) source (askedVisit (askedOf kind) (w .passage .round .number + 1) c (w .visit (w .passage .home))))
+    (ledgerNoted l (w .passage .home) source (askedVisit (askedOf kind) (w .passage .round .number + 1) c (w .visit (w .passage .home))))
 open-home w l k c source kind h i there o =
     mail-back
     w
@@ -68,7 +68,7 @@ open-home w l k c source kind h i there o =
       clock = put (w .clock) (w .passage .home) c;
       mail = w .mail;
     })
-    (noted l (w .passage .home) source (askedVisit (askedOf kind) (w .passage .round .number + 1) d (w .visit (w .passage .home)))))
+    (ledgerNoted l (w .passage .home) source (askedVisit (askedOf kind) (w .passage .round .number + 1) d (w .visit (w .passage .home)))))
     (put-same (w .clock) (w .passage .home) c)
     (rw
     (noted-there
@@ -106,7 +106,7 @@ open-left :
     (askedVisit (askedOf kind) (w .passage .round .number + 1) (clock a) (w .visit a))
     (clock a)
     (w .mail k))
-    (noted l a source (askedVisit (askedOf kind) (w .passage .round .number + 1) (clock a) (w .visit a)))
+    (ledgerNoted l a source (askedVisit (askedOf kind) (w .passage .round .number + 1) (clock a) (w .visit a)))
 open-left w l a k source clock kind h i e there o =
     subst
     (λ (x : ℕ).
@@ -119,7 +119,7 @@ open-left w l a k source clock kind h i e there o =
     (askedVisit (askedOf kind) (w .passage .round .number + 1) (clock x) (w .visit x))
     (clock x)
     (w .mail k))
-    (noted l x source (askedVisit (askedOf kind) (w .passage .round .number + 1) (clock x) (w .visit x))))
+    (ledgerNoted l x source (askedVisit (askedOf kind) (w .passage .round .number + 1) (clock x) (w .visit x))))
     (sym e)
     (open-home
     w

@@ -12,7 +12,7 @@ use Rattle.rules.specs.RangesFits.{seen-says}
 use Rattle.rules.specs.Machine.{placesOf, seenOf}
 use Rattle.runs.specs.Types.{Status, Passage, Visit, Message, Tables, Look}
 use Rattle.runs.specs.Walk.Put.{put, put-all, put-back}
-use Rattle.runs.specs.Times.View.{View, Ledger, noLedger, noted}
+use Rattle.runs.specs.Times.View.{View, Ledger, noLedger, ledgerNoted}
 use Rattle.runs.specs.Times.Clauses.{Quiet, Holds}
 use Rattle.runs.specs.Kept.Shrunk.{around, shrunk}
 use Rattle.runs.specs.Kept.Visit.{withVisit}
@@ -76,7 +76,7 @@ visit-back w a k c passage v m l e h =
 -- a visit that stays is no news
 pub holds-after-stay :
     (w : View) (l : Ledger) (a source : ℕ) → Holds w l
-    → Holds (withVisit w a (w .visit a)) (noted l a source (w .visit a))
+    → Holds (withVisit w a (w .visit a)) (ledgerNoted l a source (w .visit a))
 holds-after-stay w l a source h =
     rw
     (noted-same w l a source h)

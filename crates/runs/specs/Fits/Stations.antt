@@ -15,7 +15,7 @@ use Rattle.rules.specs.Machine.{seenOf, slotPlaces}
 use Rattle.runs.specs.Types.{Site, Visit, Tables, Places}
 use Rattle.runs.specs.Walk.Plain.{when-true, when-false}
 use Rattle.runs.specs.Walk.Put.{put, put-same}
-use Rattle.runs.specs.Times.View.{View, Ledger, mailOf, viewOf, noLedger, noted}
+use Rattle.runs.specs.Times.View.{View, Ledger, mailOf, viewOf, noLedger, ledgerNoted}
 use Rattle.runs.specs.Times.Clauses.{Holds}
 use Rattle.runs.specs.Kept.Shrunk.{around}
 use Rattle.runs.specs.Kept.Visit.{withVisit}
@@ -90,7 +90,7 @@ holds-after-swept :
     → w .visit a .release ≤ w .clock a
     → Holds
     (leftView w a k (cond b (abortedPassage (w .passage)) (w .passage)) noVisit (w .clock a) (w .mail k))
-    (cond (isFree (cond b (abortedPassage (w .passage)) (w .passage) .status)) noLedger (noted l a source noVisit))
+    (cond (isFree (cond b (abortedPassage (w .passage)) (w .passage) .status)) noLedger (ledgerNoted l a source noVisit))
 holds-after-swept w l a k source b h there late =
     mail-back
     w
@@ -109,7 +109,7 @@ holds-after-swept w l a k source b h there late =
       clock = put (w .clock) a (w .clock a);
       mail = w .mail;
     })
-    (noted l a source noVisit)
+    (ledgerNoted l a source noVisit)
     l
     (noted-gone l a source noVisit refl)
     (abort-or-stay
@@ -158,11 +158,11 @@ pub quieted-or-stay :
     (w : View) (l : Ledger) (a source : ℕ) (b prepared dead : Bool) → Holds w l
     → Holds
     (withVisit w a (whereThere (w .visit a) (cond b (quieted (w .visit a) (w .clock a) prepared dead) (w .visit a))))
-    (noted l a source (whereThere (w .visit a) (cond b (quieted (w .visit a) (w .clock a) prepared dead) (w .visit a))))
+    (ledgerNoted l a source (whereThere (w .visit a) (cond b (quieted (w .visit a) (w .clock a) prepared dead) (w .visit a))))
 quieted-or-stay w l a source b prepared dead h = go b (either (w .visit a .there))
   where
     Left : Visit → Type 0
-    Left v = Holds (withVisit w a v) (noted l a source v)
+    Left v = Holds (withVisit w a v) (ledgerNoted l a source v)
 
     stay : Left (w .visit a)
     stay = holds-after-stay w l a source h
@@ -189,7 +189,7 @@ pub holds-after-struck :
     (w : View) (l : Ledger) (a k c source : ℕ) (b prepared dead aborts : Bool) → Holds w l → w .clock a ≤ c
     → Holds
     (leftView w a k (cond aborts (abortedPassage (w .passage)) (w .passage)) (whereThere (w .visit a) (cond b (quieted (w .visit a) c prepared dead) (w .visit a))) c (w .mail k))
-    (noted l a source (whereThere (w .visit a) (cond b (quieted (w .visit a) c prepared dead) (w .visit a))))
+    (ledgerNoted l a source (whereThere (w .visit a) (cond b (quieted (w .visit a) c prepared dead) (w .visit a))))
 holds-after-struck w l a k c source b prepared dead aborts h i =
     mail-back
     w
@@ -210,7 +210,7 @@ holds-after-struck w l a k c source b prepared dead aborts h i =
       clock = put (w .clock) a c;
       mail = w .mail;
     })
-    (noted l a source (whereThere (w .visit a) (cond b (quieted (w .visit a) d prepared dead) (w .visit a)))))
+    (ledgerNoted l a source (whereThere (w .visit a) (cond b (quieted (w .visit a) d prepared dead) (w .visit a)))))
     (put-same (w .clock) a c)
     (abort-or-stay
     (withVisit (moved w a c) a (whereThere (w .visit a) (cond b (quieted (w .visit a) (put (w .clock) a c a) prepared dead) (w .visit a))))

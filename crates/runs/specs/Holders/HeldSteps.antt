@@ -29,7 +29,7 @@ use Rattle.runs.specs.Types.{Site, Kind, Visit, Call, Asked, Told, Body,
 use Rattle.runs.specs.Walk.Says.{bodyKind, calledOf}
 use Rattle.runs.specs.Walk.Put.{set-at}
 use Rattle.runs.specs.Kept.Times.{asked-says}
-use Rattle.runs.specs.Holders.HeldStore.{GoesHome, Held, Keeps}
+use Rattle.runs.specs.Holders.HeldStore.{GoesHome, Held, KeepsHeld}
 
 abbrev isCall : Body → Bool
 isCall b = eqb (bodyKind b) 1
@@ -58,7 +58,7 @@ module _ (t : Tables) (at : Places) (k : Held t) where
       (left : Seen) → left .objects ≡ bankAt t (at .bank)
       → (left .visit .there ≡ false → visitAt t (at .site) (at .slot) .there ≡ false)
       → ((c : Call) → left .message .body ≡ Body.Call c → GoesHome (left .message) c)
-      → Keeps t at left
+      → KeepsHeld t at left
   held-after-same left o v m =
       record {
         objects = λ i p l e. inl (rw o at e);
@@ -66,12 +66,12 @@ module _ (t : Tables) (at : Places) (k : Held t) where
         calls = m;
       }
 
-  held-after-seen : Keeps t at (seenOf t at)
+  held-after-seen : KeepsHeld t at (seenOf t at)
   held-after-seen = held-after-same (seenOf t at) refl (λ e. e) call-as-seen
 
   held-after-settled :
-      (cs : List Check) (v : ℕ) (left : Seen) → (Fine cs → Keeps t at left)
-      → Keeps t at (settleOf (record { answer = firstOf cs v; left = left }) (seenOf t at) .left)
+      (cs : List Check) (v : ℕ) (left : Seen) → (Fine cs → KeepsHeld t at left)
+      → KeepsHeld t at (settleOf (record { answer = firstOf cs v; left = left }) (seenOf t at) .left)
   held-after-settled cs v left f =
       ⊎-elim
       (λ e. rw e (f (accepted-fine cs v e)))
@@ -85,7 +85,7 @@ module _ (t : Tables) (at : Places) (k : Held t) where
       → left .objects ≡ eachOf f (bankAt t (at .bank))
       → at .bank ≡ at .site
       → ((c : Call) → left .message .body ≡ Body.Call c → GoesHome (left .message) c)
-      → Keeps t at left
+      → KeepsHeld t at left
   lets-go f left law o b m =
       record {
         objects = λ i p l e. inl (was i p l e .0);
@@ -113,13 +113,13 @@ module _ (t : Tables) (at : Places) (k : Held t) where
       → left .objects ≡ toldObjects told (at .slot) (bankAt t (at .bank))
       → at .bank ≡ at .site
       → ((c : Call) → left .message .body ≡ Body.Call c → GoesHome (left .message) c)
-      → Keeps t at left
+      → KeepsHeld t at left
   held-after-told (Told.Refresh q) left v o b m = held-after-same left o (λ e. sym (ap (λ (x : Visit). x .there) v) ∙ e) m
   held-after-told (Told.Terminate x) left v o b m = held-after-same left o (λ e. sym (ap (λ (x : Visit). x .there) v) ∙ e) m
   held-after-told Told.Prepare left v o b m = lets-go (freed (at .slot)) left (freed-lets-go (at .slot)) o b m
 
   -- a close does it where the home visit is there
-  held-after-closed : (told : Told) (clock : ℕ) → at .bank ≡ at .site → Keeps t at (closed told (at .slot) clock (seenOf t at))
+  held-after-closed : (told : Told) (clock : ℕ) → at .bank ≡ at .site → KeepsHeld t at (closed told (at .slot) clock (seenOf t at))
   held-after-closed told clock b =
       ⊎-elim
       (λ e. held-after-told told _ (rw e) (rw e) b call-as-seen)
@@ -130,7 +130,7 @@ module _ (t : Tables) (at : Places) (k : Held t) where
   held-after-called :
       (c : Call) (clock : ℕ) → at .slot ≡ mailSlot (seenOf t at) → at .bank ≡ at .site
       → isHeldByOther (mailSlot (seenOf t at)) (calledObject c (seenOf t at)) ≡ false
-      → Keeps t at (called c clock (seenOf t at))
+      → KeepsHeld t at (called c clock (seenOf t at))
   held-after-called c clock s b free =
       record {
         objects =
@@ -161,27 +161,27 @@ module _ (t : Tables) (at : Places) (k : Held t) where
   -- a station's step: only its site changes
   pub held-after-station :
       (cs : List Check) (v : ℕ) (site : Site)
-      → Keeps t at (settleOf (record { answer = firstOf cs v; left = leftSite (seenOf t at) site }) (seenOf t at) .left)
+      → KeepsHeld t at (settleOf (record { answer = firstOf cs v; left = leftSite (seenOf t at) site }) (seenOf t at) .left)
   held-after-station cs v site =
       held-after-settled cs v _ (λ f. held-after-same (leftSite (seenOf t at) site) refl (λ e. e) call-as-seen)
 
-  pub held-after-begin : (home slot q r : ℕ) → Keeps t at (beginOf home slot q r (seenOf t at) .left)
+  pub held-after-begin : (home slot q r : ℕ) → KeepsHeld t at (beginOf home slot q r (seenOf t at) .left)
   unfolding beginOf
   held-after-begin home slot q r =
       held-after-settled _ _ _ (λ f. held-after-same _ refl (λ e. absurd (true≢false e)) call-as-seen)
 
-  pub held-after-retire : (h : ℕ) (rest : Bool) → Keeps t at (retireOf h rest (seenOf t at) .left)
+  pub held-after-retire : (h : ℕ) (rest : Bool) → KeepsHeld t at (retireOf h rest (seenOf t at) .left)
   unfolding retireOf
   held-after-retire h rest = held-after-settled _ _ _ (λ f. held-after-same (retired (seenOf t at)) refl (λ e. e) call-as-seen)
 
-  pub held-after-drop : (m : ℕ) → Keeps t at (dropOf m (seenOf t at) .left)
+  pub held-after-drop : (m : ℕ) → KeepsHeld t at (dropOf m (seenOf t at) .left)
   unfolding dropOf
   held-after-drop m = held-after-settled _ _ _ (λ f. held-after-same (lost (seenOf t at)) refl (λ e. e) (no-call noMessage refl))
 
   -- ask and tell send no call
   pub held-after-sent :
       (cs : List Check) (v : ℕ) (body : Body) (h site clock : ℕ) → isCall body ≡ false
-      → Keeps t at (settleOf (record { answer = firstOf cs v; left = sentOut body h site clock (seenOf t at) }) (seenOf t at) .left)
+      → KeepsHeld t at (settleOf (record { answer = firstOf cs v; left = sentOut body h site clock (seenOf t at) }) (seenOf t at) .left)
   held-after-sent cs v body h site clock e =
       held-after-settled cs v _ λ f.
       held-after-same
@@ -191,7 +191,7 @@ module _ (t : Tables) (at : Places) (k : Held t) where
       (no-call (plainMessage body (passageAt t (at .slot) .home) site h clock) e)
 
   -- the object of an accepted invoke is one of the 32
-  pub held-after-invoke : (h site write object value place : ℕ) → Keeps t at (invokeOf h site write object value place (seenOf t at) .left)
+  pub held-after-invoke : (h site write object value place : ℕ) → KeepsHeld t at (invokeOf h site write object value place (seenOf t at) .left)
   unfolding invokeOf
   held-after-invoke h site write object value place =
       held-after-settled _ _ _ λ f.
@@ -216,22 +216,22 @@ module _ (t : Tables) (at : Places) (k : Held t) where
           let y : object ≡ c .object = e in
           (omega arith, omega arith)
 
-  pub held-after-open : (h : ℕ) (kind : Kind) (bad wrong : Bool) → Keeps t at (openOf h kind bad wrong (seenOf t at) .left)
+  pub held-after-open : (h : ℕ) (kind : Kind) (bad wrong : Bool) → KeepsHeld t at (openOf h kind bad wrong (seenOf t at) .left)
   unfolding openOf
   held-after-open h kind bad wrong =
       held-after-settled _ _ _ (λ f. held-after-same _ refl (λ e. sym (asked-says (askedOf kind) _ _ _ .there) ∙ e) call-as-seen)
 
-  pub held-after-abort : (h : ℕ) → Keeps t at (abortOf h (seenOf t at) .left)
+  pub held-after-abort : (h : ℕ) → KeepsHeld t at (abortOf h (seenOf t at) .left)
   unfolding abortOf
   held-after-abort h =
       held-after-settled _ _ _ (λ f. held-after-same _ refl (λ e. sym (changed-there _ _ refl) ∙ e) call-as-seen)
 
-  pub held-after-close : (h : ℕ) → slotOf h ≡ at .slot → at .bank ≡ at .site → Keeps t at (closeOf h (seenOf t at) .left)
+  pub held-after-close : (h : ℕ) → slotOf h ≡ at .slot → at .bank ≡ at .site → KeepsHeld t at (closeOf h (seenOf t at) .left)
   unfolding closeOf
   held-after-close h s b = held-after-settled _ _ _ (λ f. rw s (held-after-closed (roundTold (passageAt t (at .slot) .round)) (nextClock (siteAt t (at .site))) b))
 
   -- a phase 1 part, away from home with its answer
-  held-after-asked : (n : ℕ) (asked : Asked) (clock : ℕ) → Keeps t at (askedAt n asked clock (seenOf t at))
+  held-after-asked : (n : ℕ) (asked : Asked) (clock : ℕ) → KeepsHeld t at (askedAt n asked clock (seenOf t at))
   held-after-asked n asked clock =
       let v : Visit = visitAt t (at .site) (at .slot) in
       held-after-same
@@ -246,7 +246,7 @@ module _ (t : Tables) (at : Places) (k : Held t) where
       → at .slot ≡ mailSlot (seenOf t at)
       → at .site ≡ messageAt t (at .message) .destination % 8
       → at .bank ≡ bodyBank body (at .site)
-      → Keeps t at (deliverBodyOf body m (seenOf t at) .left)
+      → KeepsHeld t at (deliverBodyOf body m (seenOf t at) .left)
   unfolding deliverBodyOf emptyOf deliverCallOf deliverPhaseOneOf deliverPhaseTwoOf deliverAnswerOf
   held-after-deliver Body.Empty m e s a b = held-after-settled _ _ _ (λ f. held-after-seen)
   held-after-deliver (Body.Call c) m e s a b =
@@ -260,7 +260,7 @@ module _ (t : Tables) (at : Places) (k : Held t) where
       held-after-settled _ _ _ (λ f. held-after-same _ refl (λ y. y) (no-call noMessage refl))
 
   -- one slot of a sweep: the visit that goes has let go
-  held-after-swept : (site : ℕ) → at .bank ≡ at .site → Keeps t at (sweptSlot site (at .slot) (seenOf t at))
+  held-after-swept : (site : ℕ) → at .bank ≡ at .site → KeepsHeld t at (sweptSlot site (at .slot) (seenOf t at))
   unfolding sweptSlot
   held-after-swept site b =
       ⊎-elim
@@ -269,7 +269,7 @@ module _ (t : Tables) (at : Places) (k : Held t) where
       (either (isSwept (seenOf t at)))
 
   -- one slot of a crash: the visit held-after-same
-  held-after-crashed : (site slot : ℕ) → Keeps t at (crashedSlot site slot (seenOf t at))
+  held-after-crashed : (site slot : ℕ) → KeepsHeld t at (crashedSlot site slot (seenOf t at))
   unfolding crashedSlot
   held-after-crashed site slot =
       let v : Visit = visitAt t (at .site) (at .slot) in
@@ -280,7 +280,7 @@ module _ (t : Tables) (at : Places) (k : Held t) where
       (λ e. sym (changed-there v w (crashed-there (losesHome site (passageAt t (at .slot))) (siteAt t (at .site) .clock) v)) ∙ e)
       call-as-seen
 
-  pub held-after-turned : (trip : Trip) → at .bank ≡ at .site → Keeps t at (turnSeen trip (at .slot) (seenOf t at))
+  pub held-after-turned : (trip : Trip) → at .bank ≡ at .site → KeepsHeld t at (turnSeen trip (at .slot) (seenOf t at))
   held-after-turned Trip.Nowhere b = held-after-seen
   held-after-turned (Trip.Sweep site) b = held-after-swept site b
   held-after-turned (Trip.Crash site) b = held-after-crashed site (at .slot)

@@ -33,7 +33,7 @@ pub record Held (t : Tables) : Type 0 where
 
 -- ---- what a store must keep to
 
-pub record Keeps (t : Tables) (at : Places) (left : Seen) : Type 0 where
+pub record KeepsHeld (t : Tables) (at : Places) (left : Seen) : Type 0 where
   -- who holds an object held it before, or is the step's own slot, with a visit at that site
   pub objects :
       (i p : ℕ) → i < 4 → isHeldBy p (getD (left .objects) i pastObject) ≡ true
@@ -46,7 +46,7 @@ pub record Keeps (t : Tables) (at : Places) (left : Seen) : Type 0 where
       ⊎ ((at .bank ≡ at .site) × ((i : ℕ) → i < 4 → isHeldBy (at .slot) (getD (left .objects) i pastObject) ≡ false))
   pub calls : (c : Call) → left .message .body ≡ Body.Call c → GoesHome (left .message) c
 
-module _ (t : Tables) (at : Places) (left : Seen) (k : Held t) (h : Placed at) (x : Keeps t at left) where
+module _ (t : Tables) (at : Places) (left : Seen) (k : Held t) (h : Placed at) (x : KeepsHeld t at left) where
   -- a visit that was there is there, unless it is the step's own and has let go
   visit-after-store :
       (s p : ℕ) → p < 16 → visitAt t s p .there ≡ true

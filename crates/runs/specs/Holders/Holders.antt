@@ -19,14 +19,14 @@ use Rattle.rules.specs.Events.{isHolding}
 use Rattle.runs.specs.Types.{Call, Body, Message, Tables, Step, Outcome, Found}
 use Rattle.runs.specs.Walk.Plain.{repeat-has}
 use Rattle.runs.specs.Walk.Sound.{step-holds, run-holds, sound-head, sound-turn, sound-started}
-use Rattle.runs.specs.Holders.HeldStore.{GoesHome, Held, Keeps, held-stored}
+use Rattle.runs.specs.Holders.HeldStore.{GoesHome, Held, KeepsHeld, held-stored}
 use Rattle.runs.specs.Holders.HeldSteps.{no-call, held-after-station, held-after-begin, held-after-retire, held-after-drop, held-after-sent, held-after-invoke, held-after-open, held-after-abort, held-after-close, held-after-deliver, held-after-turned}
 
 -- ---- every step and every turn
 
 held-after-decided :
     (t : Tables) (step : Step) (found : Found) → Held t
-    → Keeps t (placesOf t (lookOf step)) (decideOf step found (seenOf t (placesOf t (lookOf step))) .left)
+    → KeepsHeld t (placesOf t (lookOf step)) (decideOf step found (seenOf t (placesOf t (lookOf step))) .left)
 unfolding placesOf decideOf tickOf refreshOf terminateOf prepareOf askOf tellOf sweepOf crashOf recoverOf
 held-after-decided t (Step.Tick site n) found k = held-after-station t _ k _ _ _
 held-after-decided t (Step.Begin home slot q r) found k = held-after-begin t _ k home slot q r

@@ -17,7 +17,7 @@ use Rattle.runs.specs.Times.View.{View, Past, Ledger, relast, firstSeen}
 use Rattle.runs.specs.Times.Clauses.{Below, Quiet, InAnswer, EdgeFine, SiteFine, CallFine, receivedBy, sentBy, Holds}
 use Rattle.runs.specs.Times.ClausesLaws.{call-says, empty-clause, call-clause}
 use Rattle.runs.specs.Kept.Shrunk.{around}
-use Rattle.runs.specs.Kept.Touched.{figure-fine, one-more, Later, later-sent, later-received, touchedView, callTo, Touch, touched-below, touched-figure, edge-touched, touched}
+use Rattle.runs.specs.Kept.Touched.{figure-fine, one-call-more, Later, later-sent, later-received, touchedView, callTo, Touch, touched-below, touched-figure, edge-touched, touched}
 
 -- ---- a visit that stands before its Q
 
@@ -104,7 +104,7 @@ module _ (w : View) (l : Ledger) (h : Holds w l) (s k d handle stamp : ℕ) (c :
       record {
         seen = rw put-same;
         born = rw (put-same, same-round) (sender .born);
-        sent = rw (put-same, ← sender-last, one-more (l s .last .sent) d d sender-counts, eq-eqb d d refl) (omega arith);
+        sent = rw (put-same, ← sender-last, one-call-more (l s .last .sent) d d sender-counts, eq-eqb d d refl) (omega arith);
         figures =
             λ r j f z.
             let g : l s .last .round ≡ w .passage .round .number =
@@ -134,7 +134,7 @@ module _ (w : View) (l : Ledger) (h : Holds w l) (s k d handle stamp : ℕ) (c :
   invoked-fair e =
       let r : receivedBy (invokedLedger e) ≡ receivedBy (l e) =
       put-all l s (relast (l s) counted) (λ i z. receivedBy z ≡ receivedBy (l i)) (rw (sender-seen, sender-last)) (λ i n. refl) e in
-      rw (r, sender-seen, empty, ← sender-last, one-more (l s .last .sent) d e sender-counts) (omega arith)
+      rw (r, sender-seen, empty, ← sender-last, one-call-more (l s .last .sent) d e sender-counts) (omega arith)
 
   pub holds-after-invoked :
       Holds

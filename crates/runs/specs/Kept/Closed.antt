@@ -51,8 +51,8 @@ module _ (w : View) (l : Ledger) (h : Holds w l)
   not-none e = true≢false (ap isPhaseOne (sym one ∙ e))
 
   -- a slot with a round open is not free
-  not-free : w .passage .status ≢ Status.Free
-  not-free e = not-none (ap (λ r. r .phase) (h .free e .round))
+  closed-not-free : w .passage .status ≢ Status.Free
+  closed-not-free e = not-none (ap (λ r. r .phase) (h .free e .round))
 
   -- when the round binds, a closed passage is over
   closed-over :
@@ -158,7 +158,7 @@ module _ (w : View) (l : Ledger) (h : Holds w l)
       (toldStatus (roundTold (w .passage .round)) (w .passage .status))
       Phase.Two
       h
-      (λ e. not-free (free-told (roundTold (w .passage .round)) (w .passage .status) e))
+      (λ e. closed-not-free (free-told (roundTold (w .passage .round)) (w .passage .status) e))
       (over-told (roundTold (w .passage .round)) (w .passage .status))
       (λ e. absurd (true≢false (sym (ap isPhaseOne e))))
       (λ q r e k. closed-below q r k)

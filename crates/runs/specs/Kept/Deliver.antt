@@ -11,7 +11,7 @@ use Rattle.rules.specs.Calls.{calledVisit}
 use Rattle.runs.specs.Types.{Figures, Status, Passage, Visit, Call, Asked, Told, Body, Message}
 use Rattle.runs.specs.Walk.Plain.{when-true, when-false}
 use Rattle.runs.specs.Walk.Put.{put, put-same, put-all}
-use Rattle.runs.specs.Times.View.{View, Ledger, noLedger, noted, relast, firstSeen}
+use Rattle.runs.specs.Times.View.{View, Ledger, noLedger, ledgerNoted, relast, firstSeen}
 use Rattle.runs.specs.Times.Clauses.{Quiet, sentFigures, InAnswer, FigureFine, PhaseOneFine, LateFine, Holds}
 use Rattle.runs.specs.Times.ClausesLaws.{binding-no-refresh, late-says, terminate-says, prepare-says}
 use Rattle.runs.specs.Kept.Shrunk.{shrunk}
@@ -41,7 +41,7 @@ mail-lost w l k h =
 -- a visit that is made where there was none
 noted-made :
     (l : Ledger) (a source : ℕ) (v : Visit) → v .there ≡ true → l a .seen ≡ false
-    → noted l a source v ≡ put l a (firstSeen l source v)
+    → ledgerNoted l a source v ≡ put l a (firstSeen l source v)
 noted-made l a source v e s = ap (put l a) (made (v .there) (l a .seen) e s)
   where
     made :
@@ -55,7 +55,7 @@ noted-made l a source v e s = ap (put l a) (made (v .there) (l a .seen) e s)
 -- what is left with this passage, this visit and this message; source is that of the message looked at
 abbrev pub LandedAt : View → Ledger → ℕ → ℕ → ℕ → Passage → Visit → Message → ℕ → Type 0
 LandedAt w l a k c p v m source =
-    Holds (leftView w a k p v c m) (cond (isFree (p .status)) noLedger (noted l a source v))
+    Holds (leftView w a k p v c m) (cond (isFree (p .status)) noLedger (ledgerNoted l a source v))
 
 module _ (w : View) (l : Ledger) (a k c : ℕ) (h : Holds w l) (i : w .clock a ≤ c) where
   abbrev Landed : Passage → Visit → Message → ℕ → Type 0
@@ -76,7 +76,7 @@ module _ (w : View) (l : Ledger) (a k c : ℕ) (h : Holds w l) (i : w .clock a �
     call-received there early =
         holds-after-news
         (leftView w a k (w .passage) (countReceived (w .visit a)) c noMessage)
-        (noted l a (w .mail k .source) (countReceived (w .visit a)))
+        (ledgerNoted l a (w .mail k .source) (countReceived (w .visit a)))
         _
         (noted-there l a (w .mail k .source) (countReceived (w .visit a)) there (h .mirror a there .0))
         (holds-after-received later l later-holds k a call body at there (rw (put-same (w .clock) a c) early))
@@ -91,7 +91,7 @@ module _ (w : View) (l : Ledger) (a k c : ℕ) (h : Holds w l) (i : w .clock a �
         let late : put (w .clock) a c a < call .quiesce = rw (put-same (w .clock) a c) early in
         holds-after-news
         (leftView w a k (w .passage) (countReceived madeVisit) c noMessage)
-        (noted l a (w .mail k .source) (countReceived madeVisit))
+        (ledgerNoted l a (w .mail k .source) (countReceived madeVisit))
         _
         (noted-made l a (w .mail k .source) (countReceived madeVisit) refl (never-twice later l later-holds k a call body at missing late))
         (holds-after-made later l later-holds k a call body at missing late)
@@ -147,7 +147,7 @@ module _ (w : View) (l : Ledger) (a k c : ℕ) (h : Holds w l) (i : w .clock a �
     one-lands handle source =
         holds-after-news
         (leftView w a k (w .passage) asks c (answerMessage asks a (w .passage .home) handle c))
-        (noted l a source asks)
+        (ledgerNoted l a source asks)
         (withLast l a asks)
         (noted-there l a source asks asks-there (h .mirror a there .0))
         (subst
@@ -186,7 +186,7 @@ module _ (w : View) (l : Ledger) (a k c : ℕ) (h : Holds w l) (i : w .clock a �
     two-left v source e g =
         holds-after-news
         (leftView w a k (w .passage) v c noMessage)
-        (noted l a source v)
+        (ledgerNoted l a source v)
         (withLast l a v)
         (noted-there l a source v e two-seen)
         (mail-lost (withVisit later a v) (withLast l a v) k g)
@@ -234,7 +234,7 @@ module _ (w : View) (l : Ledger) (a k c : ℕ) (h : Holds w l) (i : w .clock a �
     two-prepare source body =
         holds-after-news
         (leftView w a k (w .passage) noVisit c noMessage)
-        (noted l a source noVisit)
+        (ledgerNoted l a source noVisit)
         l
         (noted-gone l a source noVisit refl)
         (mail-lost
@@ -278,7 +278,7 @@ module _ (w : View) (l : Ledger) (a k c : ℕ) (h : Holds w l) (i : w .clock a �
     answer-lands =
         holds-after-news
         (leftView w a k kept (w .visit a) c noMessage)
-        (noted l a source (w .visit a))
+        (ledgerNoted l a source (w .visit a))
         l
         (noted-same w l a source h)
         (visit-back

@@ -13,7 +13,7 @@ use Rattle.runs.specs.Types.{Figures, Kind, Phase, Status}
 use Rattle.runs.specs.Walk.Says.{isRefresh, isBinding}
 use Rattle.runs.specs.Walk.Put.{same-or-other}
 use Rattle.runs.specs.Times.View.{View, Ledger}
-use Rattle.runs.specs.Times.Clauses.{Below, Quiet, Kept, FigureFine, EdgeFine, Holds}
+use Rattle.runs.specs.Times.Clauses.{Below, Quiet, KeptFigure, FigureFine, EdgeFine, Holds}
 use Rattle.runs.specs.Kept.Masks.{answered-here, answered-other, mask-lt}
 use Rattle.runs.specs.Kept.Same.{alike, alikeView, body-after-alike, site-after-alike}
 
@@ -29,10 +29,10 @@ pub record Restated (w : View) (l : Ledger) (status : Status) (phase : Phase) (a
   pub mask : answered < 256
   pub eight : length figures ≡ 8
   pub kept :
-      (v : ℕ) (f : Figures) → Kept (alike (w .passage) status phase answered figures .round) v f → FigureFine w l v f
+      (v : ℕ) (f : Figures) → KeptFigure (alike (w .passage) status phase answered figures .round) v f → FigureFine w l v f
   pub edges :
       (v d k : ℕ) (f : Figures) → EdgeFine w l v d k → isRefresh (w .passage .round .kind) ≡ true
-      → k < w .passage .round .number → Kept (alike (w .passage) status phase answered figures .round) v f
+      → k < w .passage .round .number → KeptFigure (alike (w .passage) status phase answered figures .round) v f
       → 1 ≤ getD (f .sent) d 0
   pub home-answers :
       phase ≡ Phase.One → hasAnswered (alike (w .passage) status phase answered figures .round) (w .passage .home) ≡ true
@@ -132,7 +132,7 @@ abbrev pub restated : View → Status → Phase → View
 restated w status phase =
     alikeHere w status phase (w .passage .round .answered) (w .passage .round .figures)
 
-kept-fine : (w : View) (l : Ledger) → Holds w l → (v : ℕ) (f : Figures) → Kept (w .passage .round) v f → FigureFine w l v f
+kept-fine : (w : View) (l : Ledger) → Holds w l → (v : ℕ) (f : Figures) → KeptFigure (w .passage .round) v f → FigureFine w l v f
 kept-fine w l h v f (i, e, g) = rw g (h .passage .kept v i e)
 
 pub holds-after-restated :
@@ -194,8 +194,8 @@ module _ (w : View) (l : Ledger) (s : ℕ) (f : Figures) (h : Holds w l) (i : s 
     (open′ : w .passage .round .phase ≢ Phase.Two) (used : w .passage .status ≢ Status.Free) where
   -- figures kept now are the new ones, or were kept before
   kept-now :
-      (v : ℕ) (g : Figures) → Kept (withAnswer (w .passage .round) s f) v g
-      → ((v ≡ s) × (g ≡ f)) ⊎ Kept (w .passage .round) v g
+      (v : ℕ) (g : Figures) → KeptFigure (withAnswer (w .passage .round) s f) v g
+      → ((v ≡ s) × (g ≡ f)) ⊎ KeptFigure (w .passage .round) v g
   kept-now v g (j, e, y) =
       ⊎-elim
       (λ (q : v ≡ s). inl (q, y ∙ same q))

@@ -36,9 +36,9 @@ sum-over-put {A} g f a x n h =
         (same-or-other i a)
 
 -- one more at place d, nothing elsewhere
-pub one-more :
+pub one-call-more :
     (l : List ℕ) (d e : ℕ) → d < length l → getD (set l d (getD l d 0 + 1)) e 0 ≡ getD l e 0 + oneIf (eqb d e)
-one-more l d e h =
+one-call-more l d e h =
     ⊎-elim
     (λ (q : e ≡ d). rw (q, getD-set-same l d (getD l d 0 + 1) 0 h, eq-eqb d d refl))
     (λ n. rw (getD-set-other l d e (getD l d 0 + 1) 0 n, ne-eqb d e (λ q. n (sym q))) (omega arith))
@@ -90,7 +90,7 @@ later-sent x d h =
       release = refl;
       round = refl;
       counts = rw length-set;
-      sent = λ e. rw (one-more (x .last .sent) d e h) (omega arith);
+      sent = λ e. rw (one-call-more (x .last .sent) d e h) (omega arith);
     }
 
 pub later-received : (x : Past) → Later x (relast x (countReceived (x .last)))

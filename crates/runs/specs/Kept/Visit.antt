@@ -177,8 +177,8 @@ module _ (w : View) (l : Ledger) (a : ℕ) (v : Visit) (Needed : ℕ → Type 0)
             );
       }
 
-  edge : (s d k : ℕ) → EdgeFine w l s d k → EdgeFine (withVisit w a v) (withLast l a v) s d k
-  edge s d k g =
+  visit-edge : (s d k : ℕ) → EdgeFine w l s d k → EdgeFine (withVisit w a v) (withLast l a v) s d k
+  visit-edge s d k g =
       record {
         seen = seen-same s ∙ g .seen;
         born = rw born-same (g .born);
@@ -209,7 +209,7 @@ module _ (w : View) (l : Ledger) (a : ℕ) (v : Visit) (Needed : ℕ → Type 0)
             let g = h .call c e in
             record {
               number = g .number;
-              edge = edge (m .source) (m .destination) (c .round) (g .edge);
+              edge = visit-edge (m .source) (m .destination) (c .round) (g .edge);
               times = below (c .quiesce) (x .calls k c e);
               refresh-one = λ q r o n. g .refresh-one q r o (sym (seen-same (m .destination)) ∙ n);
               bound = g .bound;
@@ -234,7 +234,7 @@ module _ (w : View) (l : Ledger) (a : ℕ) (v : Visit) (Needed : ℕ → Type 0)
         number = rw o (g .number);
         born = rw o (g .born);
         tree = λ m. rw (o, depth-same (l s .caller)) (g .tree m);
-        edge = λ m. rw o (edge (l s .caller) s (l s .born) (g .edge m));
+        edge = λ m. rw o (visit-edge (l s .caller) s (l s .born) (g .edge m));
         times = rw o (below (l s .last .quiesce) (x .others s e));
         refresh-one = λ q r k m. rw o (g .refresh-one q r k (rw o at m));
         bound = λ b m. rw o (g .bound b (rw o at m));
@@ -256,7 +256,7 @@ module _ (w : View) (l : Ledger) (a : ℕ) (v : Visit) (Needed : ℕ → Type 0)
             let j : w .visit a .round ≤ v .round = x .rises in
             omega arith);
         tree = λ m. rw (o, depth-same (l a .caller)) (g .tree m);
-        edge = λ m. rw o (edge (l a .caller) a (l a .born) (g .edge m));
+        edge = λ m. rw o (visit-edge (l a .caller) a (l a .born) (g .edge m));
         times = rw o (below (v .quiesce) (x .here));
         refresh-one = λ q r k m. rw o (x .refresh-one q r k (rw o at m));
         bound = λ b m. rw o (x .bound b (rw o at m));

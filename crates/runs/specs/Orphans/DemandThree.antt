@@ -15,7 +15,7 @@ use Rattle.rules.specs.Events.{isHolding}
 use Rattle.runs.specs.Types.{Status, Told, Body, Message, Tables, Step}
 use Rattle.runs.specs.Walk.Says.{toldQuiesce, toldTime, bodyLatest, bodyAll}
 use Rattle.runs.specs.Times.View.{viewOf}
-use Rattle.runs.specs.Walk.Steps.{ghostRun, head-accepted, stepsOf, records-are-steps}
+use Rattle.runs.specs.Walk.Steps.{ghostRun, head-accepted, stepsRead, records-are-steps}
 use Rattle.runs.specs.Walk.Sound.{Sound, sound-started, sound-run, sound-from, sound-step}
 use Rattle.runs.specs.Holders.HeldStore.{Held}
 use Rattle.runs.specs.Holders.Holders.{held-run, held-step, held-from}
@@ -230,8 +230,8 @@ module _ {t₀ : Tables} (fresh : Started t₀) (before : List Step) (slot site 
 pub demand-three-records :
     {t₀ : Tables} → Started t₀ → (records : List (List ℕ)) (slot site : ℕ) → slot < 16 → site < 8
     → passageAt (runRecordsOf t₀ records) slot .status ≡ Status.Aborted
-    → beganCommit slot false (historyOf t₀ (stepsOf records)) ≡ false
+    → beganCommit slot false (historyOf t₀ (stepsRead records)) ≡ false
     → Released (runRecordsOf t₀ records) slot site (latest (runRecordsOf t₀ records) slot)
 demand-three-records {t₀} fresh records slot site slots sites aborted never =
-    let e : runRecordsOf t₀ records ≡ runOf t₀ (stepsOf records) = records-are-steps t₀ records in
-    rw e (demand-three fresh (stepsOf records) slot site slots sites (rw e at aborted) never)
+    let e : runRecordsOf t₀ records ≡ runOf t₀ (stepsRead records) = records-are-steps t₀ records in
+    rw e (demand-three fresh (stepsRead records) slot site slots sites (rw e at aborted) never)

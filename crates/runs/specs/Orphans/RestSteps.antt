@@ -21,12 +21,12 @@ use Rattle.rules.specs.Calls.{mailClock, mailSlot, calledObject, called, delive
 use Rattle.rules.specs.Machine.{lookOf, placesOf, seenOf, decideOf, stored, headOf, turnOf, stepOf, tripPlaces, turnSeen}
 use Rattle.rules.specs.StoredLaws.{Sized, Placed, turn-stored}
 use Rattle.rules.specs.StoredObjects.{seen-object-at, object-after-stored, object-after-stored-other, each-at}
-use Rattle.rules.specs.Views.{settled, Objects, Mail, mailOf, deedOf}
+use Rattle.rules.specs.Views.{settled, Objects, Mail, mailDeed, deedOf}
 use Rattle.runs.specs.Types.{Kind, Call, Told, Body, Tables, Step, Outcome, Places, Seen, Found}
 use Rattle.runs.specs.Walk.Says.{isPrepare, tellsPrepare, carriesCommit}
 use Rattle.runs.specs.Walk.Put.{same-or-other, set-at}
 use Rattle.runs.specs.Walk.Sound.{Sound, sound-step-has}
-use Rattle.runs.specs.Orphans.Rests.{Stands, Turned, standing-after-turned, standing-after-call, stands-after-freed, standing-after-restored, unheld-after-restored}
+use Rattle.runs.specs.Orphans.Rests.{Stands, TurnStands, standing-after-turned, standing-after-call, stands-after-freed, standing-after-restored, unheld-after-restored}
 use Rattle.runs.specs.Orphans.Widths.{commits}
 use Rattle.runs.specs.Walk.Steps.{seenAt}
 
@@ -114,7 +114,7 @@ standing-after-seen :
     → AllStand (commits step seen) (seen .objects) (decideOf step found seen .left .objects)
 unfolding decideOf
 standing-after-seen _ found seen (Objects.Closes h) = standing-after-close h seen
-standing-after-seen _ found seen (Objects.Delivers m) = standing-after-mail (seen .message .body) m seen (mailOf (seen .message .body))
+standing-after-seen _ found seen (Objects.Delivers m) = standing-after-mail (seen .message .body) m seen (mailDeed (seen .message .body))
 standing-after-seen _ found seen (Objects.Stay step c d stay) = standing-after-same (commits step seen) (seen .objects) _ (stay found seen)
 
 standing-after-decided :
@@ -166,12 +166,12 @@ standing-after-head t step z =
 
 seen-turned :
     (trip : Trip) (slot : ℕ) (seen : Seen) (i : ℕ) → i < 4
-    → Turned (getD (seen .objects) i pastObject) (getD (turnSeen trip slot seen .objects) i pastObject)
+    → TurnStands (getD (seen .objects) i pastObject) (getD (turnSeen trip slot seen .objects) i pastObject)
 unfolding sweptSlot crashedSlot
 seen-turned Trip.Nowhere slot seen i l = (refl, λ u. refl)
 seen-turned (Trip.Sweep site) slot seen i l =
     cond-keeps
-    (λ (x : Seen). Turned (getD (seen .objects) i pastObject) (getD (x .objects) i pastObject))
+    (λ (x : Seen). TurnStands (getD (seen .objects) i pastObject) (getD (x .objects) i pastObject))
     (isSwept seen)
     _
     seen
@@ -183,12 +183,12 @@ seen-turned (Trip.Crash site) slot seen i l = (refl, λ u. refl)
 
 turn-turned :
     (trip : Trip) (slot : ℕ) (o : Outcome) → slot < 16 → Sound (o .tables) → (k : ℕ)
-    → Turned (objectAt (o .tables) k) (objectAt (turnOf trip slot o .tables) k)
+    → TurnStands (objectAt (o .tables) k) (objectAt (turnOf trip slot o .tables) k)
 turn-turned trip slot o l z k =
     rw
     (turn-stored trip slot o)
     (stored-all
-    Turned
+    TurnStands
     (λ x. (refl, λ u. refl))
     (o .tables)
     (tripPlaces trip slot)

@@ -26,11 +26,11 @@ abbrev pub Stands : Bool → Object → Object → Type 0
 Stands commit o left = (standing left ≡ standing o) ⊎ ((commit ≡ true) × (left ≡ unheld (o .value)))
 
 -- what a turn of a sweep or a crash does: the width that stands stays, and an object that nobody holds stays as it is
-abbrev pub Turned : Object → Object → Type 0
-Turned o left = (standing left ≡ standing o) × (isUnheld o ≡ true → left ≡ o)
+abbrev pub TurnStands : Object → Object → Type 0
+TurnStands o left = (standing left ≡ standing o) × (isUnheld o ≡ true → left ≡ o)
 
 -- a turn after the store
-pub standing-after-turned : (commit : Bool) (o left last : Object) → Stands commit o left → Turned left last → Stands commit o last
+pub standing-after-turned : (commit : Bool) (o left last : Object) → Stands commit o left → TurnStands left last → Stands commit o last
 standing-after-turned commit o left last (inl e) w = inl (w .0 ∙ e)
 standing-after-turned commit o left last (inr (c, e)) w = inr (c, w .1 (ap isUnheld e ∙ let-go-unheld (o .value)) ∙ e)
 

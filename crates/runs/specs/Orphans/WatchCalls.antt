@@ -20,14 +20,14 @@ use Rattle.runs.specs.Orphans.WatchKept.{BodyKeeps}
 use Rattle.runs.specs.Orphans.WatchMailKept.{mail-after-same, mail-after-empty, mail-after-seen}
 use Rattle.runs.specs.Orphans.WatchPassageKept.{passage-after-same, passage-after-answered, asked-home, told-home}
 use Rattle.runs.specs.Orphans.WatchVisitKept.{visit-after-same, visit-after-sent, visit-after-asked, visit-after-told, visit-after-called}
-use Rattle.runs.specs.Orphans.WatchStore.{Keeps}
+use Rattle.runs.specs.Orphans.WatchStore.{KeepsWatch}
 
 -- ---- invoke: the call has the times of a visit that is there
 
 pub watch-after-invoked :
     (latest : ℕ) (t : Tables) (at : Places) (h site write object value place : ℕ) → slotOf h ≡ at .slot
     → Fine (invokeChecks h site write object value (seenOf t at))
-    → Keeps latest t at (invokeDone h site write object value place (seenOf t at) .left)
+    → KeepsWatch latest t at (invokeDone h site write object value place (seenOf t at) .left)
 watch-after-invoked latest t at h site write object value place own fine =
     record {
       clock = omega arith;
@@ -75,7 +75,7 @@ module _ (latest : ℕ) (t : Tables) (at : Places) (m : ℕ) (own : slotOf (mess
       (own-body (at .slot) letter b body full own)
       (mail-after-same latest view (at .message))
 
-  pub watch-after-call : (c : Call) → letter .body ≡ Body.Call c → Fine (callChecks m c seen) → Keeps latest t at (callDone m c seen .left)
+  pub watch-after-call : (c : Call) → letter .body ≡ Body.Call c → Fine (callChecks m c seen) → KeepsWatch latest t at (callDone m c seen .left)
   watch-after-call c body fine =
       record {
         clock = omega arith;
@@ -110,7 +110,7 @@ module _ (latest : ℕ) (t : Tables) (at : Places) (m : ℕ) (own : slotOf (mess
       (record { plain = λ h. refl; bounded = λ h b. zero-le })
 
   pub watch-after-phase-one :
-      (n : ℕ) (asked : Asked) → letter .body ≡ Body.PhaseOne n asked → Keeps latest t at (phaseOneDone m n asked seen .left)
+      (n : ℕ) (asked : Asked) → letter .body ≡ Body.PhaseOne n asked → KeepsWatch latest t at (phaseOneDone m n asked seen .left)
   watch-after-phase-one n asked body =
       record {
         clock = omega arith;
@@ -131,7 +131,7 @@ module _ (latest : ℕ) (t : Tables) (at : Places) (m : ℕ) (own : slotOf (mess
       says = watch-after-letter (Body.PhaseOne n asked) body refl
 
   pub watch-after-phase-two :
-      (n : ℕ) (told : Told) → letter .body ≡ Body.PhaseTwo n told → Keeps latest t at (phaseTwoDone m n told seen .left)
+      (n : ℕ) (told : Told) → letter .body ≡ Body.PhaseTwo n told → KeepsWatch latest t at (phaseTwoDone m n told seen .left)
   watch-after-phase-two n told body =
       record {
         clock = omega arith;
@@ -148,7 +148,7 @@ module _ (latest : ℕ) (t : Tables) (at : Places) (m : ℕ) (own : slotOf (mess
       says : BodyKeeps latest view (Body.PhaseTwo n told)
       says = watch-after-letter (Body.PhaseTwo n told) body refl
 
-  pub watch-after-answer : (n received q : ℕ) → Keeps latest t at (answerDone m n received q seen .left)
+  pub watch-after-answer : (n received q : ℕ) → KeepsWatch latest t at (answerDone m n received q seen .left)
   watch-after-answer n received q =
       record {
         clock = omega arith;
@@ -169,25 +169,25 @@ module _ (latest : ℕ) (t : Tables) (at : Places) (m : ℕ) (own : slotOf (mess
       }
 
   -- an accepted decision leaves what it decided
-  delivered-settled :
-      (d : Decision) → isAccepted (d .answer) ≡ true → Keeps latest t at (d .left) → Keeps latest t at (settleOf d seen .left)
-  delivered-settled d e x = rw e x
+  watch-after-settled-delivery :
+      (d : Decision) → isAccepted (d .answer) ≡ true → KeepsWatch latest t at (d .left) → KeepsWatch latest t at (settleOf d seen .left)
+  watch-after-settled-delivery d e x = rw e x
 
   pub watch-after-delivered :
       (b : Body) → letter .body ≡ b → isAccepted (deliverBodyOf b m seen .answer) ≡ true
-      → Keeps latest t at (deliverBodyOf b m seen .left)
+      → KeepsWatch latest t at (deliverBodyOf b m seen .left)
   unfolding deliverBodyOf emptyOf deliverCallOf deliverPhaseOneOf deliverPhaseTwoOf deliverAnswerOf
   watch-after-delivered Body.Empty e y = absurd (true≢false (sym (ap isEmpty e) ∙ accepted-fine _ 0 y .found))
-  watch-after-delivered (Body.Call c) e y = delivered-settled (callDone m c seen) y (watch-after-call c e (accepted-fine _ _ y))
-  watch-after-delivered (Body.PhaseOne n asked) e y = delivered-settled (phaseOneDone m n asked seen) y (watch-after-phase-one n asked e)
-  watch-after-delivered (Body.PhaseTwo n told) e y = delivered-settled (phaseTwoDone m n told seen) y (watch-after-phase-two n told e)
-  watch-after-delivered (Body.Answer n received q) e y = delivered-settled (answerDone m n received q seen) y (watch-after-answer n received q)
+  watch-after-delivered (Body.Call c) e y = watch-after-settled-delivery (callDone m c seen) y (watch-after-call c e (accepted-fine _ _ y))
+  watch-after-delivered (Body.PhaseOne n asked) e y = watch-after-settled-delivery (phaseOneDone m n asked seen) y (watch-after-phase-one n asked e)
+  watch-after-delivered (Body.PhaseTwo n told) e y = watch-after-settled-delivery (phaseTwoDone m n told seen) y (watch-after-phase-two n told e)
+  watch-after-delivered (Body.Answer n received q) e y = watch-after-settled-delivery (answerDone m n received q seen) y (watch-after-answer n received q)
 
 -- ---- drop: the message is lost
 
 pub watch-after-lost :
     (latest : ℕ) (t : Tables) (at : Places) → slotOf (messageAt t (at .message) .handle) ≡ at .slot
-    → Keeps latest t at (lost (seenOf t at))
+    → KeepsWatch latest t at (lost (seenOf t at))
 watch-after-lost latest t at own =
     record {
       clock = omega arith;

@@ -24,7 +24,7 @@ use Rattle.runs.specs.Orphans.WatchKept.{plain-left, watch-unwatched, pl
 use Rattle.runs.specs.Orphans.WatchMailKept.{mail-after-same}
 use Rattle.runs.specs.Orphans.WatchPassageKept.{passage-after-aborted}
 use Rattle.runs.specs.Orphans.WatchVisitKept.{where-there, visit-after-quieted}
-use Rattle.runs.specs.Orphans.WatchStore.{knownHead, Keeps, Guards}
+use Rattle.runs.specs.Orphans.WatchStore.{knownHead, KeepsWatch, Guards}
 
 -- ---- begin: something else is known after it
 
@@ -73,7 +73,7 @@ watch-after-begin latest site t at g home slot q r own fine =
 
 -- ---- abort: the passage, and the home visit where it is there
 
-pub watch-after-abort : (latest : ℕ) (t : Tables) (at : Places) (h : ℕ) → Keeps latest t at (abortDone h (seenOf t at) .left)
+pub watch-after-abort : (latest : ℕ) (t : Tables) (at : Places) (h : ℕ) → KeepsWatch latest t at (abortDone h (seenOf t at) .left)
 watch-after-abort latest t at h =
     record {
       clock = omega arith;

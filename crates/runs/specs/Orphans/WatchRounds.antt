@@ -18,14 +18,14 @@ use Rattle.runs.specs.Orphans.WatchKept.{Ending, BodyKeeps, watch-unwatc
 use Rattle.runs.specs.Orphans.WatchMailKept.{mail-after-same, mail-after-seen, mail-after-ask, mail-after-tell, refresh-asks, terminate-asks}
 use Rattle.runs.specs.Orphans.WatchPassageKept.{passage-after-same, passage-after-closed, passage-after-terminating, passage-after-refreshing}
 use Rattle.runs.specs.Orphans.WatchVisitKept.{visit-after-same, where-there, visit-after-asked, visit-after-told}
-use Rattle.runs.specs.Orphans.WatchStore.{knownHead, Keeps, Guards}
+use Rattle.runs.specs.Orphans.WatchStore.{knownHead, KeepsWatch, Guards}
 
 -- ---- refresh and terminate: a round opens, and its phase 1 part is done at home
 
 pub watch-after-refresh :
     (latest : ℕ) (t : Tables) (at : Places) (h q r : ℕ) (bad : Bool)
     → Fine (openChecks h bad (not (isActive (seenOf t at .passage .status))) (seenOf t at))
-    → Keeps latest t at (openDone h (Kind.Refresh q r) bad (not (isActive (seenOf t at .passage .status))) (seenOf t at) .left)
+    → KeepsWatch latest t at (openDone h (Kind.Refresh q r) bad (not (isActive (seenOf t at .passage .status))) (seenOf t at) .left)
 watch-after-refresh latest t at h q r bad fine =
     record {
       clock = omega arith;
@@ -59,7 +59,7 @@ watch-after-refresh latest t at h q r bad fine =
 
 pub watch-after-terminate :
     (latest : ℕ) (t : Tables) (at : Places) (h : ℕ) (bad wrong : Bool)
-    → Keeps latest t at (openDone h Kind.Terminate bad wrong (seenOf t at) .left)
+    → KeepsWatch latest t at (openDone h Kind.Terminate bad wrong (seenOf t at) .left)
 watch-after-terminate latest t at h bad wrong =
     record {
       clock = omega arith;
@@ -141,7 +141,7 @@ watch-after-sent-out :
     (latest : ℕ) (t : Tables) (at : Places) (body : Body) (h site clock : ℕ) → siteAt t (at .site) .clock ≤ clock
     → isEmpty (messageAt t (at .message) .body) ≡ true → slotOf h ≡ at .slot
     → (Ending (passageAt t (at .slot)) → BodyKeeps latest (viewOf t (at .slot)) body)
-    → Keeps latest t at (sentOut body h site clock (seenOf t at))
+    → KeepsWatch latest t at (sentOut body h site clock (seenOf t at))
 watch-after-sent-out latest t at body h site clock i empty own law =
     record {
       clock = i;
@@ -157,7 +157,7 @@ watch-after-sent-out latest t at body h site clock i empty own law =
 
 pub watch-after-asked-out :
     (latest : ℕ) (t : Tables) (at : Places) (h site place : ℕ) → slotOf h ≡ at .slot → Fine (askChecks h site (seenOf t at))
-    → Keeps latest t at (askDone h site place (seenOf t at) .left)
+    → KeepsWatch latest t at (askDone h site place (seenOf t at) .left)
 watch-after-asked-out latest t at h site place own fine =
     watch-after-sent-out
     latest
@@ -179,7 +179,7 @@ watch-after-asked-out latest t at h site place own fine =
 
 pub watch-after-told-out :
     (latest : ℕ) (t : Tables) (at : Places) (h site place : ℕ) → slotOf h ≡ at .slot → Fine (tellChecks h site (seenOf t at))
-    → Keeps latest t at (tellDone h site place (seenOf t at) .left)
+    → KeepsWatch latest t at (tellDone h site place (seenOf t at) .left)
 watch-after-told-out latest t at h site place own fine =
     watch-after-sent-out
     latest
@@ -210,7 +210,7 @@ watch-after-told-out latest t at h site place own fine =
 
 pub watch-after-close :
     (latest : ℕ) (t : Tables) (at : Places) (h : ℕ) → Fine (closeChecks h (seenOf t at))
-    → Keeps latest t at (closeDone h (seenOf t at) .left)
+    → KeepsWatch latest t at (closeDone h (seenOf t at) .left)
 watch-after-close latest t at h fine =
     record {
       clock = omega arith;

@@ -17,12 +17,12 @@ use Rattle.runs.specs.Orphans.WatchKept.{VisitKeeps}
 use Rattle.runs.specs.Orphans.WatchMailKept.{mail-after-same}
 use Rattle.runs.specs.Orphans.WatchPassageKept.{passage-after-same, passage-after-aborted}
 use Rattle.runs.specs.Orphans.WatchVisitKept.{visit-after-same, where-there, visit-goes, visit-after-quieted}
-use Rattle.runs.specs.Orphans.WatchStore.{Keeps}
+use Rattle.runs.specs.Orphans.WatchStore.{KeepsWatch}
 
 -- only the site changes, and its clock does not go back
 pub watch-after-site :
     (latest : ℕ) (t : Tables) (at : Places) (site : Site) → siteAt t (at .site) .clock ≤ site .clock
-    → Keeps latest t at (leftSite (seenOf t at) site)
+    → KeepsWatch latest t at (leftSite (seenOf t at) site)
 watch-after-site latest t at site i =
     record {
       clock = i;
@@ -39,11 +39,11 @@ watch-after-site latest t at site i =
 -- one slot of a sweep: the visit goes, and an active passage at home is aborted; or all stays
 watch-after-swept :
     (latest : ℕ) (t : Tables) (site slot : ℕ)
-    → Keeps latest t (slotPlaces site slot) (sweptSlot site slot (seenOf t (slotPlaces site slot)))
+    → KeepsWatch latest t (slotPlaces site slot) (sweptSlot site slot (seenOf t (slotPlaces site slot)))
 unfolding sweptSlot
 watch-after-swept latest t site slot =
     cond-keeps
-    (Keeps latest t (slotPlaces site slot))
+    (KeepsWatch latest t (slotPlaces site slot))
     (isSwept (seenOf t (slotPlaces site slot)))
     _
     _
@@ -68,7 +68,7 @@ watch-after-swept latest t site slot =
 -- one slot of a crash
 watch-after-crashed :
     (latest : ℕ) (t : Tables) (site slot : ℕ)
-    → Keeps latest t (slotPlaces site slot) (crashedSlot site slot (seenOf t (slotPlaces site slot)))
+    → KeepsWatch latest t (slotPlaces site slot) (crashedSlot site slot (seenOf t (slotPlaces site slot)))
 unfolding crashedSlot
 watch-after-crashed latest t site slot =
     record {
@@ -97,7 +97,7 @@ watch-after-crashed latest t site slot =
 
 pub watch-after-turned :
     (latest : ℕ) (t : Tables) (trip : Trip) (slot : ℕ)
-    → Keeps latest t (tripPlaces trip slot) (turnSeen trip slot (seenOf t (tripPlaces trip slot)))
+    → KeepsWatch latest t (tripPlaces trip slot) (turnSeen trip slot (seenOf t (tripPlaces trip slot)))
 watch-after-turned latest t Trip.Nowhere slot = watch-after-site latest t (tripPlaces Trip.Nowhere slot) (siteAt t 0) (omega arith)
 watch-after-turned latest t (Trip.Sweep site) slot = watch-after-swept latest t site slot
 watch-after-turned latest t (Trip.Crash site) slot = watch-after-crashed latest t site slot

@@ -26,7 +26,7 @@ use Rattle.runs.specs.Walk.Steps.{placesAt, seenAt, ghostRun, good-after
 use Rattle.runs.specs.Walk.Sound.{Sound, sound-head, sound-turn}
 use Rattle.runs.specs.Orphans.Watch.{Known, Watch}
 use Rattle.runs.specs.Orphans.WatchKept.{Follows, follows-same, watch-unwatched, plain-free, aborted-free}
-use Rattle.runs.specs.Orphans.WatchStore.{knownHead, knownTurn, Keeps, Guards, guards-of-kept, guarded}
+use Rattle.runs.specs.Orphans.WatchStore.{knownHead, knownTurn, KeepsWatch, Guards, guards-of-kept, guarded}
 use Rattle.runs.specs.Orphans.WatchStations.{watch-after-site, watch-after-turned}
 use Rattle.runs.specs.Orphans.WatchLife.{watch-after-begin, watch-after-abort, watch-after-retire}
 use Rattle.runs.specs.Orphans.WatchRounds.{watch-after-refresh, watch-after-terminate, watch-after-prepare, watch-after-asked-out, watch-after-told-out, watch-after-close}
@@ -42,12 +42,12 @@ module _ (latest site : ℕ) (t : Tables) (g : Known) where
   still-follows : Follows g stillKnown
   still-follows = record { commit = λ y. y; watched = λ y. and-left (g .watched) true y; cleared = λ y. y }
 
-  guards-after-kept : (at : Places) (left : Seen) → Keeps latest t at left → Guards latest site t at g (λ p. stillKnown) left
+  guards-after-kept : (at : Places) (left : Seen) → KeepsWatch latest t at left → Guards latest site t at g (λ p. stillKnown) left
   guards-after-kept at left x = guards-of-kept latest site t at g (λ p. stillKnown) left (λ p. still-follows) x
 
   -- an accepted decision leaves what it decided
   watch-after-settled :
-      (at : Places) (d : Decision) → isAccepted (d .answer) ≡ true → Keeps latest t at (d .left)
+      (at : Places) (d : Decision) → isAccepted (d .answer) ≡ true → KeepsWatch latest t at (d .left)
       → Guards latest site t at g (λ p. stillKnown) (settleOf d (seenOf t at) .left)
   watch-after-settled at d e x = rw e (guards-after-kept at (d .left) x)
 

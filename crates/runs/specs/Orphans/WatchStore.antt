@@ -39,7 +39,7 @@ pub record LeftKeeps (latest : ℕ) (w : View) (a : ℕ) (p : Passage) (v : Visi
   pub mail : BodyKeeps latest w b
 
 -- a step that tells nothing new of the passage
-pub record Keeps (latest : ℕ) (t : Tables) (at : Places) (left : Seen) : Type 0 where
+pub record KeepsWatch (latest : ℕ) (t : Tables) (at : Places) (left : Seen) : Type 0 where
   pub clock : siteAt t (at .site) .clock ≤ left .site .clock
   pub mail : OwnChange (at .slot) (messageAt t (at .message)) (left .message)
   pub own :
@@ -61,7 +61,7 @@ pub record Guards (latest site : ℕ) (t : Tables) (at : Places) (g : Known) (ne
 
 pub guards-of-kept :
     (latest site : ℕ) (t : Tables) (at : Places) (g : Known) (next : ℕ → Known) (left : Seen)
-    → ((p : ℕ) → Follows g (next p)) → Keeps latest t at left → Guards latest site t at g next left
+    → ((p : ℕ) → Follows g (next p)) → KeepsWatch latest t at left → Guards latest site t at g next left
 guards-of-kept latest site t at g next left f x =
     record {
       clock = x .clock;

@@ -33,14 +33,14 @@ use Rattle.runs.specs.Orphans.Orphans.{retires}
 use Rattle.runs.specs.Promises.Definitions.{retiresIn, generationAt, names}
 
 -- a generation after a step that is a retire of its slot, or is none: "255 is followed by 0"
-abbrev moved : Bool → ℕ → ℕ
-moved retire g = cond retire ((g + 1) % 256) g
+abbrev movedOn : Bool → ℕ → ℕ
+movedOn retire g = cond retire ((g + 1) % 256) g
 
 -- ---- what a decision leaves of the generation
 
 -- of its own slot: one more for a retire, else as it was; and it is a retire of no other slot
-record Moves (slot : ℕ) (step : Step) (seen left : Seen) : Type 0 where
-  own : left .passage .generation ≡ moved (retires slot step) (seen .passage .generation)
+record MovesOn (slot : ℕ) (step : Step) (seen left : Seen) : Type 0 where
+  own : left .passage .generation ≡ movedOn (retires slot step) (seen .passage .generation)
   other : (p : ℕ) → p ≢ slot → retires p step ≡ false
 
 -- a change of a passage's status leaves its generation
@@ -51,7 +51,7 @@ at-home-generation b x y g = cond-keeps (λ (p : Passage). p .generation ≡ g) 
 -- an accepted retire moves the generation of the slot that its handle names
 retire-moves :
     (h : ℕ) (rest : Bool) (seen : Seen) → isAccepted (retireOf h rest seen .answer) ≡ true
-    → Moves (slotOf h) (Step.Retire h) seen (retireOf h rest seen .left)
+    → MovesOn (slotOf h) (Step.Retire h) seen (retireOf h rest seen .left)
 unfolding retireOf
 retire-moves h rest seen e =
     record {
@@ -62,7 +62,7 @@ retire-moves h rest seen e =
 seen-moves :
     (t : Tables) (step : Step) (found : Found) (seen : Seen) → Generation step
     → isAccepted (decideOf step found seen .answer) ≡ true
-    → Moves (placesOf t (lookOf step) .slot) step seen (decideOf step found seen .left)
+    → MovesOn (placesOf t (lookOf step) .slot) step seen (decideOf step found seen .left)
 unfolding placesOf decideOf
 seen-moves t _ found seen (Generation.Retires h) e = retire-moves h (found .remains) seen e
 seen-moves t _ found seen (Generation.Stays step never stays) e =
@@ -71,7 +71,7 @@ seen-moves t _ found seen (Generation.Stays step never stays) e =
 decided-moves :
     (t : Tables) (step : Step) (found : Found) (seen : Seen)
     → isAccepted (decideOf step found seen .answer) ≡ true
-    → Moves (placesOf t (lookOf step) .slot) step seen (decideOf step found seen .left)
+    → MovesOn (placesOf t (lookOf step) .slot) step seen (decideOf step found seen .left)
 decided-moves t step found seen = seen-moves t step found seen (deedOf step .generation)
 
 -- ---- steps
@@ -91,12 +91,12 @@ stored-generation t at left z h f own other p =
 
 head-generation :
     (t : Tables) (step : Step) → Sound t → isAccepted (headOf t step .answer) ≡ true → (p : ℕ)
-    → generationAt (headOf t step .tables) p ≡ moved (retires p step) (generationAt t p)
+    → generationAt (headOf t step .tables) p ≡ movedOn (retires p step) (generationAt t p)
 unfolding headOf
 head-generation t step z e =
     let at : Places = placesOf t (lookOf step) in
     let m = decided-moves t step (foundOf t at) (seenOf t at) e in
-    stored-generation t at _ (z .sized) (placed-places t (lookOf step)) (λ p. moved (retires p step)) (m .own) (λ p n. rw (m .other p n))
+    stored-generation t at _ (z .sized) (placed-places t (lookOf step)) (λ p. movedOn (retires p step)) (m .own) (λ p n. rw (m .other p n))
 
 -- each slot of a sweep or a crash leaves the generation
 turned-generation : (trip : Trip) (slot : ℕ) (seen : Seen) → turnSeen trip slot seen .passage .generation ≡ seen .passage .generation
@@ -129,7 +129,7 @@ generation-after-step t step z e p =
     t
     step
     z
-    (λ n u. generationAt u p ≡ moved (retires p step) (generationAt t p))
+    (λ n u. generationAt u p ≡ movedOn (retires p step) (generationAt t p))
     (λ n o l y k. turn-generation (lookOf step .trip) n o l y p ∙ k)
     (λ a. head-generation t step z a p)
     e
@@ -172,13 +172,13 @@ generation-from t (s ∷ ss) p z l =
     let k = generation-from (stepOf t s .tables) ss p (sound-step t s z) (c .0) in
     (k .0, k .1 ∙ c .1)
 
-generation-start : (p : ℕ) → generationAt start p < 256
+generation-start-below : (p : ℕ) → generationAt start p < 256
 unfolding start
-generation-start = repeat-has (λ (x : Passage). x .generation < 256) 16 (freeSlot 0) pastPassage (omega arith) (omega arith)
+generation-start-below = repeat-has (λ (x : Passage). x .generation < 256) 16 (freeSlot 0) pastPassage (omega arith) (omega arith)
 
 -- in every run a generation is one byte
 pub generation-below : {t₀ : Tables} → Started t₀ → (ss : List Step) (p : ℕ) → generationAt (runOf t₀ ss) p < 256
-generation-below {t₀} fresh ss p = generation-from t₀ ss p (sound-started fresh) (rw (fresh .empty) (generation-start p)) .0
+generation-below {t₀} fresh ss p = generation-from t₀ ss p (sound-started fresh) (rw (fresh .empty) (generation-start-below p)) .0
 
 -- the generation counts the accepted retires: what a run adds is their number, and 255 is followed by 0
 pub generation-counts-retires :

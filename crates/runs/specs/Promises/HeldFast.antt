@@ -25,7 +25,7 @@ use Rattle.rules.specs.RangesLaws.{placed-places, placed-trip}
 use Rattle.rules.specs.Runs.{Started, runOf}
 use Rattle.rules.specs.Events.{isHolding}
 use Rattle.rules.specs.StoredObjects.{seen-object-at, object-after-stored, object-after-stored-other, each-at}
-use Rattle.rules.specs.Views.{settled, Objects, Mail, mailOf, deedOf}
+use Rattle.rules.specs.Views.{settled, Objects, Mail, mailDeed, deedOf}
 use Rattle.runs.specs.Types.{Visit, Call, Told, Body, Tables, Step, Places, Seen, Outcome, Found}
 use Rattle.runs.specs.Walk.Put.{same-or-other}
 use Rattle.runs.specs.Walk.Steps.{run-on}
@@ -144,7 +144,7 @@ fast-after-seen :
     → Fast t (placesOf t (lookOf step)) (decideOf step found (seenOf t (placesOf t (lookOf step))) .left)
 unfolding placesOf decideOf
 fast-after-seen t _ found (Objects.Closes h) = fast-after-close t _ h refl refl
-fast-after-seen t _ found (Objects.Delivers m) = fast-after-mail t _ _ m (mailOf _) refl refl
+fast-after-seen t _ found (Objects.Delivers m) = fast-after-mail t _ _ m (mailDeed _) refl refl
 fast-after-seen t _ found (Objects.Stay step c d stay) = fast-after-same t _ _ (stay found (seenOf t (placesOf t (lookOf step))))
 
 fast-after-decided :

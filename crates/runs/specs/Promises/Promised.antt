@@ -22,7 +22,7 @@ use Rattle.rules.specs.StoredLaws.{Sized, Placed, visit-place-same, visit-after
 use Rattle.rules.specs.RangesLaws.{placed-places, placed-trip}
 use Rattle.rules.specs.RefusedLaws.{refused-leaves}
 use Rattle.rules.specs.Runs.{Started, runOf}
-use Rattle.rules.specs.Views.{settled, Marks, Mail, mailOf, deedOf}
+use Rattle.rules.specs.Views.{settled, Marks, Mail, mailDeed, deedOf}
 use Rattle.runs.specs.Types.{Kind, Visit, Told, Body, Tables, Step, Places, Seen, Outcome, Found}
 use Rattle.runs.specs.Walk.Says.{isPrepare, tellsPrepare, carriesCommit}
 use Rattle.runs.specs.Walk.Put.{same-or-other}
@@ -55,8 +55,8 @@ firm-after-settled :
 firm-after-settled trip cs v seen left e = settled (λ (x : Seen). Firm trip (x .visit)) cs v seen left (λ g. e)
 
 -- a rule that changes a visit and leaves it there
-changed-there : (v changed : Visit) → v .there ≡ true → changed .there ≡ true → whereThere v changed .there ≡ true
-changed-there v changed e f = rw e f
+there-after-change : (v changed : Visit) → v .there ≡ true → changed .there ≡ true → whereThere v changed .there ≡ true
+there-after-change v changed e f = rw e f
 
 -- phase 2 of a round that is no commit round leaves the visit there
 closed-there : (k : Kind) (m : ℕ) (v : Visit) → v .there ≡ true → isPrepare k ≡ false → toldVisit (toldOf k m) v .there ≡ true
@@ -101,15 +101,15 @@ firm-after-marked t _ found (Marks.Closes h) k f =
     _
     _
     _
-    (changed-there _ _ (k .there) (closed-there (passageAt t (slotOf h) .round .kind) _ _ (k .there) (word-here (slotOf h) (passageAt t (slotOf h) .home % 8) _ f)))
+    (there-after-change _ _ (k .there) (closed-there (passageAt t (slotOf h) .round .kind) _ _ (k .there) (word-here (slotOf h) (passageAt t (slotOf h) .home % 8) _ f)))
     (k .there)
-firm-after-marked t _ found (Marks.Aborts h) k f = firm-after-settled Trip.Nowhere _ _ _ _ (changed-there _ _ (k .there) (k .there)) (k .there)
+firm-after-marked t _ found (Marks.Aborts h) k f = firm-after-settled Trip.Nowhere _ _ _ _ (there-after-change _ _ (k .there) (k .there)) (k .there)
 firm-after-marked t _ found (Marks.Delivers m) k f =
     mail-there
     (messageAt t (m % 32) .body)
     m
     _
-    (mailOf (messageAt t (m % 32) .body))
+    (mailDeed (messageAt t (m % 32) .body))
     (k .there)
     (word-here (slotOf (messageAt t (m % 32) .handle)) (messageAt t (m % 32) .destination % 8) _ f)
 firm-after-marked t _ found (Marks.Stay step there prepared) k f =
@@ -139,7 +139,7 @@ unfolding crashedSlot
 firm-after-turned Trip.Nowhere n seen k = k
 firm-after-turned (Trip.Sweep site) n seen k = rw (prepared-not-swept site n seen (k .1)) k
 firm-after-turned (Trip.Crash site) n seen k =
-    changed-there
+    there-after-change
     (seen .visit)
     _
     k

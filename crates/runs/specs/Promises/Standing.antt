@@ -22,7 +22,7 @@ use Rattle.rules.specs.StoredLaws.{Sized, Placed, passage-after-stored, passage
 use Rattle.rules.specs.RangesLaws.{placed-places, placed-trip}
 use Rattle.rules.specs.RefusedLaws.{refused-leaves}
 use Rattle.rules.specs.Runs.{Started, runOf}
-use Rattle.rules.specs.Views.{settled, Marks, Mail, mailOf, Goes, deedOf}
+use Rattle.rules.specs.Views.{settled, Marks, Mail, mailDeed, Goes, deedOf}
 use Rattle.runs.specs.Types.{Kind, Passage, Visit, Asked, Told, Body, Tables, Step, Places, Seen, Outcome, Found}
 use Rattle.runs.specs.Walk.Says.{isPrepare, isTerminate, tellsPrepare, carriesCommit, asksTerminate}
 use Rattle.runs.specs.Walk.Put.{same-or-other}
@@ -37,35 +37,35 @@ use Rattle.runs.specs.Promises.Definitions.{Promised, letsOff, letOffIn,
 -- ---- what a decision leaves of its visit
 
 -- there and prepared
-abbrev Stands : Visit → Type 0
-Stands v = (v .there ≡ true) × (v .prepared ≡ true)
+abbrev PromiseStands : Visit → Type 0
+PromiseStands v = (v .there ≡ true) × (v .prepared ≡ true)
 
 -- an accepted decision leaves what was decided where no check holds
 stands-after-settled :
-    (cs : List Check) (v : ℕ) (seen left : Seen) → (Fine cs → Stands (left .visit)) → Stands (seen .visit)
-    → Stands (settleOf (record { answer = firstOf cs v; left = left }) seen .left .visit)
-stands-after-settled cs v seen left = settled (λ (x : Seen). Stands (x .visit)) cs v seen left
+    (cs : List Check) (v : ℕ) (seen left : Seen) → (Fine cs → PromiseStands (left .visit)) → PromiseStands (seen .visit)
+    → PromiseStands (settleOf (record { answer = firstOf cs v; left = left }) seen .left .visit)
+stands-after-settled cs v seen left = settled (λ (x : Seen). PromiseStands (x .visit)) cs v seen left
 
 -- a round of another kind opens or closes: the mark stays
-stands-after-closed : (k : Kind) (m : ℕ) (v : Visit) → Stands v → isPrepare k ≡ false → Stands (whereThere v (toldVisit (toldOf k m) v))
-stands-after-closed Kind.None m v e f = cond-keeps Stands (v .there) _ v e e
-stands-after-closed (Kind.Refresh q r) m v e f = cond-keeps Stands (v .there) _ v e e
-stands-after-closed Kind.Terminate m v e f = cond-keeps Stands (v .there) _ v e e
+stands-after-closed : (k : Kind) (m : ℕ) (v : Visit) → PromiseStands v → isPrepare k ≡ false → PromiseStands (whereThere v (toldVisit (toldOf k m) v))
+stands-after-closed Kind.None m v e f = cond-keeps PromiseStands (v .there) _ v e e
+stands-after-closed (Kind.Refresh q r) m v e f = cond-keeps PromiseStands (v .there) _ v e e
+stands-after-closed Kind.Terminate m v e f = cond-keeps PromiseStands (v .there) _ v e e
 stands-after-closed Kind.Prepare m v e f = absurd (true≢false f)
 
-stands-after-asked : (asked : Asked) (n clock : ℕ) (v : Visit) → Stands v → isTerminate asked ≡ false → Stands (askedVisit asked n clock v)
+stands-after-asked : (asked : Asked) (n clock : ℕ) (v : Visit) → PromiseStands v → isTerminate asked ≡ false → PromiseStands (askedVisit asked n clock v)
 stands-after-asked (Asked.Refresh r) n clock v k f = k
 stands-after-asked Asked.Terminate n clock v k f = absurd (true≢false f)
 stands-after-asked Asked.Prepare n clock v k f = (k .0, refl)
 
-stands-after-told : (told : Told) (v : Visit) → Stands v → tellsPrepare told ≡ false → Stands (toldVisit told v)
+stands-after-told : (told : Told) (v : Visit) → PromiseStands v → tellsPrepare told ≡ false → PromiseStands (toldVisit told v)
 stands-after-told (Told.Refresh q) v k f = k
 stands-after-told (Told.Terminate m) v k f = k
 stands-after-told Told.Prepare v k f = absurd (true≢false f)
 
 stands-after-mail :
-    (body : Body) (m : ℕ) (seen : Seen) → Mail body → Stands (seen .visit) → (carriesCommit body || asksTerminate body) ≡ false
-    → Stands (deliverBodyOf body m seen .left .visit)
+    (body : Body) (m : ℕ) (seen : Seen) → Mail body → PromiseStands (seen .visit) → (carriesCommit body || asksTerminate body) ≡ false
+    → PromiseStands (deliverBodyOf body m seen .left .visit)
 unfolding deliverBodyOf deliverCallOf deliverPhaseOneOf deliverPhaseTwoOf
 stands-after-mail _ m seen (Mail.Calls c) k f = stands-after-settled _ _ seen _ (λ g. rw (k .0) (refl, k .1)) k
 stands-after-mail _ m seen (Mail.Asks n asked) k f = stands-after-settled _ _ seen _ (λ g. stands-after-asked asked n _ (seen .visit) k f) k
@@ -78,10 +78,10 @@ home-here a b f = true≢false (rw (eq-eqb a a refl, eq-eqb b b refl) at f)
 
 -- a slot in use is not begun
 stands-after-marked :
-    (t : Tables) (step : Step) (found : Found) → Marks step → Stands (visitAt t (placesOf t (lookOf step) .site) (placesOf t (lookOf step) .slot))
+    (t : Tables) (step : Step) (found : Found) → Marks step → PromiseStands (visitAt t (placesOf t (lookOf step) .site) (placesOf t (lookOf step) .slot))
     → isFree (passageAt t (placesOf t (lookOf step) .slot) .status) ≡ false
     → letsOff t (placesOf t (lookOf step) .site) (placesOf t (lookOf step) .slot) step ≡ false
-    → Stands (decideOf step found (seenOf t (placesOf t (lookOf step))) .left .visit)
+    → PromiseStands (decideOf step found (seenOf t (placesOf t (lookOf step))) .left .visit)
 unfolding placesOf decideOf beginOf abortOf terminateOf prepareOf openOf closeOf
 stands-after-marked t _ found (Marks.Begins home slot q r) k u f =
     stands-after-settled _ _ _ _ (λ g. absurd (true≢false (sym (not-false (isFree (passageAt t (slotOf slot) .status)) (g .state)) ∙ u))) k
@@ -101,7 +101,7 @@ stands-after-marked t _ found (Marks.Delivers m) k u f =
     (messageAt t (m % 32) .body)
     m
     _
-    (mailOf (messageAt t (m % 32) .body))
+    (mailDeed (messageAt t (m % 32) .body))
     k
     (word-here (slotOf (messageAt t (m % 32) .handle)) (messageAt t (m % 32) .destination % 8) _ f)
 stands-after-marked t _ found (Marks.Stay step there prepared) k u f =
@@ -109,27 +109,27 @@ stands-after-marked t _ found (Marks.Stay step there prepared) k u f =
     (there found seen ∙ k .0, prepared found seen ∙ k .1)
 
 stands-after-decided :
-    (t : Tables) (step : Step) (found : Found) → Stands (visitAt t (placesOf t (lookOf step) .site) (placesOf t (lookOf step) .slot))
+    (t : Tables) (step : Step) (found : Found) → PromiseStands (visitAt t (placesOf t (lookOf step) .site) (placesOf t (lookOf step) .slot))
     → isFree (passageAt t (placesOf t (lookOf step) .slot) .status) ≡ false
     → letsOff t (placesOf t (lookOf step) .site) (placesOf t (lookOf step) .slot) step ≡ false
-    → Stands (decideOf step found (seenOf t (placesOf t (lookOf step))) .left .visit)
+    → PromiseStands (decideOf step found (seenOf t (placesOf t (lookOf step))) .left .visit)
 stands-after-decided t step found = stands-after-marked t step found (deedOf step .marks)
 
 -- ---- what one slot of a sweep or of a crash leaves of its visit and its passage
 
 -- a crash is not that of the passage's home
-abbrev Stays : Trip → Passage → Type 0
-Stays Trip.Nowhere x = Unit {0}
-Stays (Trip.Sweep site) x = Unit {0}
-Stays (Trip.Crash site) x = losesHome site x ≡ false
+abbrev StaysOff : Trip → Passage → Type 0
+StaysOff Trip.Nowhere x = Unit {0}
+StaysOff (Trip.Sweep site) x = Unit {0}
+StaysOff (Trip.Crash site) x = losesHome site x ≡ false
 
-stands-after-turned : (trip : Trip) (n : ℕ) (seen : Seen) → Stays trip (seen .passage) → Stands (seen .visit) → Stands (turnSeen trip n seen .visit)
+stands-after-turned : (trip : Trip) (n : ℕ) (seen : Seen) → StaysOff trip (seen .passage) → PromiseStands (seen .visit) → PromiseStands (turnSeen trip n seen .visit)
 unfolding crashedSlot
 stands-after-turned Trip.Nowhere n seen w k = k
 stands-after-turned (Trip.Sweep site) n seen w k = rw (prepared-not-swept site n seen (k .1)) k
-stands-after-turned (Trip.Crash site) n seen w k = cond-keeps Stands (seen .visit .there) _ (seen .visit) (rw (w, k .1) (k .0, refl)) k
+stands-after-turned (Trip.Crash site) n seen w k = cond-keeps PromiseStands (seen .visit .there) _ (seen .visit) (rw (w, k .1) (k .0, refl)) k
 
-way-after-turned : (trip : Trip) (n : ℕ) (seen : Seen) → Stays trip (seen .passage) → Stays trip (turnSeen trip n seen .passage)
+way-after-turned : (trip : Trip) (n : ℕ) (seen : Seen) → StaysOff trip (seen .passage) → StaysOff trip (turnSeen trip n seen .passage)
 unfolding crashedSlot
 way-after-turned Trip.Nowhere n seen w = tt
 way-after-turned (Trip.Sweep site) n seen w = tt
@@ -153,18 +153,18 @@ passage-has P t at left z h p own other =
 module _ (s p : ℕ) (slot : p < 16) where
   -- what is kept on a step's way: the visit, and that a crash at its own site is not that of its passage's home
   abbrev Away : Trip → Passage → Type 0
-  Away trip x = s ≡ tripSite trip % 8 → Stays trip x
+  Away trip x = s ≡ tripSite trip % 8 → StaysOff trip x
 
   abbrev OnWay : Trip → Tables → Type 0
-  OnWay trip u = Stands (visitAt u s p) × Away trip (passageAt u p)
+  OnWay trip u = PromiseStands (visitAt u s p) × Away trip (passageAt u p)
 
   stands-after-head :
       (t : Tables) (step : Step) → Sound t → Promised t s p → isFree (passageAt t p .status) ≡ false → letsOff t s p step ≡ false
-      → Stands (visitAt (headOf t step .tables) s p)
+      → PromiseStands (visitAt (headOf t step .tables) s p)
   unfolding headOf
   stands-after-head t step z k u f =
       stored-has
-      Stands
+      PromiseStands
       t
       (placesOf t (lookOf step))
       _
@@ -178,7 +178,7 @@ module _ (s p : ℕ) (slot : p < 16) where
       t
       step
       _
-      (subst₂ (λ (x y : ℕ). Stands (visitAt t x y)) a b (k .there, k .prepared))
+      (subst₂ (λ (x y : ℕ). PromiseStands (visitAt t x y)) a b (k .there, k .prepared))
       (subst (λ (y : ℕ). isFree (passageAt t y .status) ≡ false) b u)
       (subst₂ (λ (x y : ℕ). letsOff t x y step ≡ false) a b f))
       (k .there, k .prepared)
@@ -219,13 +219,13 @@ module _ (s p : ℕ) (slot : p < 16) where
       (trip : Trip) (n : ℕ) (o : Outcome) → n < 16 → Sound (o .tables) → OnWay trip (o .tables) → OnWay trip (turnOf trip n o .tables)
   turn-on-way trip n o l z (k, w) =
       let at : Places = tripPlaces trip n in
-      let here : s ≡ at .site → p ≡ at .slot → Stays trip (passageAt (o .tables) n) =
-      λ a b. subst (λ (x : ℕ). Stays trip (passageAt (o .tables) x)) b (w a) in
+      let here : s ≡ at .site → p ≡ at .slot → StaysOff trip (passageAt (o .tables) n) =
+      λ a b. subst (λ (x : ℕ). StaysOff trip (passageAt (o .tables) x)) b (w a) in
       rw (turn-stored trip n o) (
-        stored-has Stands (o .tables) at _ (z .sized) (placed-trip trip n l) s p slot
-            (λ a b. stands-after-turned trip n (seenOf (o .tables) at) (here a b) (subst₂ (λ (x y : ℕ). Stands (visitAt (o .tables) x y)) a b k))
+        stored-has PromiseStands (o .tables) at _ (z .sized) (placed-trip trip n l) s p slot
+            (λ a b. stands-after-turned trip n (seenOf (o .tables) at) (here a b) (subst₂ (λ (x y : ℕ). PromiseStands (visitAt (o .tables) x y)) a b k))
             k,
-        λ a. passage-has (Stays trip) (o .tables) at _ (z .sized) (placed-trip trip n l) p (λ b. way-after-turned trip n (seenOf (o .tables) at) (here a b)) (w a),
+        λ a. passage-has (StaysOff trip) (o .tables) at _ (z .sized) (placed-trip trip n l) p (λ b. way-after-turned trip n (seenOf (o .tables) at) (here a b)) (w a),
       )
 
   -- in any tables: the promise to a passage in use stands after every step that does not let the station off
@@ -248,17 +248,17 @@ module _ (s p : ℕ) (slot : p < 16) where
 
 module _ {t₀ : Tables} (fresh : Started t₀) (s p : ℕ) (slot : p < 16) where
   -- in a run the slot of a visit is in use
-  in-use : (ss : List Step) → visitAt (runOf t₀ ss) s p .there ≡ true → isFree (passageAt (runOf t₀ ss) p .status) ≡ false
-  in-use ss there =
+  slot-in-use : (ss : List Step) → visitAt (runOf t₀ ss) s p .there ≡ true → isFree (passageAt (runOf t₀ ss) p .status) ≡ false
+  slot-in-use ss there =
       ⊎-elim
       (λ e. absurd (true≢false (sym there ∙ free-no-visit fresh ss p slot (free-says (passageAt (runOf t₀ ss) p .status) e) s)))
       (λ e. e)
       (either (isFree (passageAt (runOf t₀ ss) p .status)))
 
-  one-step :
+  stands-one-step :
       (ss : List Step) (x : Step) → Promised (runOf t₀ ss) s p → (isAccepted (stepOf (runOf t₀ ss) x .answer) && letsOff (runOf t₀ ss) s p x) ≡ false
       → StandsFrom (runOf t₀ ss) (stepOf (runOf t₀ ss) x .tables) s p
-  one-step ss x k f =
+  stands-one-step ss x k f =
       record {
         promised = next;
         objects =
@@ -272,7 +272,7 @@ module _ {t₀ : Tables} (fresh : Started t₀) (s p : ℕ) (slot : p < 16) wher
       next : Promised (stepOf (runOf t₀ ss) x .tables) s p
       next =
           ⊎-elim
-          (λ e. promise-after-step s p slot (runOf t₀ ss) x (sound-run fresh ss) k (in-use ss (k .there)) (rw e at f))
+          (λ e. promise-after-step s p slot (runOf t₀ ss) x (sound-run fresh ss) k (slot-in-use ss (k .there)) (rw e at f))
           (λ e. rw (refused-leaves (runOf t₀ ss) x e) k)
           (either (isAccepted (stepOf (runOf t₀ ss) x .answer)))
 
@@ -284,7 +284,7 @@ module _ {t₀ : Tables} (fresh : Started t₀) (s p : ℕ) (slot : p < 16) wher
   stands-after-run ss (x ∷ xs) k f =
       let now : Bool = isAccepted (stepOf (runOf t₀ ss) x .answer) && letsOff (runOf t₀ ss) s p x in
       let e : runOf t₀ (ss ++ (x ∷ [])) ≡ stepOf (runOf t₀ ss) x .tables = run-on t₀ ss (x ∷ []) in
-      let a : StandsFrom (runOf t₀ ss) (stepOf (runOf t₀ ss) x .tables) s p = one-step ss x k (or-left now _ f) in
+      let a : StandsFrom (runOf t₀ ss) (stepOf (runOf t₀ ss) x .tables) s p = stands-one-step ss x k (or-left now _ f) in
       let b : StandsFrom (stepOf (runOf t₀ ss) x .tables) (runOf (stepOf (runOf t₀ ss) x .tables) xs) s p =
       subst
       (λ (t : Tables). Promised t s p → letOffIn t s p xs ≡ false → StandsFrom t (runOf t xs) s p)

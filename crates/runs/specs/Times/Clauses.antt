@@ -43,12 +43,12 @@ pub record InAnswer (n v : ℕ) (f : Figures) (m : Message) (b : Body) : Type 0 
   pub source : m .source ≡ v
   pub figures : f ≡ sentFigures m received quiesce
 
-abbrev pub Kept : Round → ℕ → Figures → Type 0
-Kept r v f = (v < 8) × (hasAnswered r v ≡ true) × (f ≡ figuresAt r v)
+abbrev pub KeptFigure : Round → ℕ → Figures → Type 0
+KeptFigure r v f = (v < 8) × (hasAnswered r v ≡ true) × (f ≡ figuresAt r v)
 
 abbrev pub Figure : View → ℕ → Figures → Type 0
 Figure w v f =
-    Kept (w .passage .round) v f
+    KeptFigure (w .passage .round) v f
     ⊎ ((k : ℕ) × InAnswer (w .passage .round .number) v f (w .mail k) (w .mail k .body))
 
 -- what holds of figures of site v

@@ -16,7 +16,7 @@ use Rattle.rules.specs.LoopsLaws.{either, cond-keeps}
 use Rattle.rules.specs.StoredLaws.{Sized, Placed, visit-place-same, site-after-stored, passage-after-stored, visit-after-stored, message-after-stored, site-after-stored-other, passage-after-stored-other, visit-after-stored-other, message-after-stored-other}
 use Rattle.runs.specs.Types.{Site, Status, Passage, Visit, Body, Message, Tables, Places, Seen, Decision}
 use Rattle.runs.specs.Walk.Put.{put, put-same, put-other, put-all, same-or-other, everywhere, put-back}
-use Rattle.runs.specs.Times.View.{View, Past, Ledger, mailOf, viewOf, noLedger, relast, notedPast, noted}
+use Rattle.runs.specs.Times.View.{View, Past, Ledger, mailOf, viewOf, noLedger, relast, notedPast, ledgerNoted}
 use Rattle.runs.specs.Times.Clauses.{Quiet, Holds}
 use Rattle.runs.specs.Kept.Shrunk.{around, shrunk}
 use Rattle.runs.specs.Kept.Life.{free-again}
@@ -26,7 +26,7 @@ use Rattle.runs.specs.Kept.Life.{free-again}
 -- the slot's ledger once a step has left this: none for a free slot
 abbrev pub nextLedger : Ledger → ℕ → Seen → Seen → Ledger
 nextLedger l a seen left =
-    cond (isFree (left .passage .status)) noLedger (noted l a (seen .message .source) (left .visit))
+    cond (isFree (left .passage .status)) noLedger (ledgerNoted l a (seen .message .source) (left .visit))
 
 -- the ledgers of all slots: only the step's own slot has news
 abbrev pub nextLedgers : (ℕ → Ledger) → Places → Seen → Seen → ℕ → Ledger
@@ -236,7 +236,7 @@ relast-same x v s e =
     }
 
 -- a visit that stays is no news
-pub noted-same : (w : View) (l : Ledger) (a source : ℕ) → Holds w l → noted l a source (w .visit a) ≡ l
+pub noted-same : (w : View) (l : Ledger) (a source : ℕ) → Holds w l → ledgerNoted l a source (w .visit a) ≡ l
 noted-same w l a source h = put-back l a _ (same (either (w .visit a .there)))
   where
     same : (w .visit a .there ≡ true) ⊎ (w .visit a .there ≡ false) → notedPast l (l a) source (w .visit a) ≡ l a
@@ -248,11 +248,11 @@ noted-same w l a source h = put-back l a _ (same (either (w .visit a .there)))
 -- a visit that was there and is there has a later record
 pub noted-there :
     (l : Ledger) (a source : ℕ) (v : Visit) → v .there ≡ true → l a .seen ≡ true
-    → noted l a source v ≡ put l a (relast (l a) v)
+    → ledgerNoted l a source v ≡ put l a (relast (l a) v)
 noted-there l a source v e s = ap (put l a) (first-of-two (v .there) (l a .seen) _ _ _ e s)
 
 -- a visit that is not there leaves the ledger
-pub noted-gone : (l : Ledger) (a source : ℕ) (v : Visit) → v .there ≡ false → noted l a source v ≡ l
+pub noted-gone : (l : Ledger) (a source : ℕ) (v : Visit) → v .there ≡ false → ledgerNoted l a source v ≡ l
 noted-gone l a source v e = put-back l a _ (rw e refl)
 
 -- the clock moves, and a message may be lost
@@ -287,18 +287,18 @@ pub holds-after-idle :
     → (m ≡ w .mail k) ⊎ (m .body ≡ Body.Empty)
     → Holds
     (leftView w a k (w .passage) (w .visit a) c m)
-    (cond (isFree (w .passage .status)) noLedger (noted l a source (w .visit a)))
+    (cond (isFree (w .passage .status)) noLedger (ledgerNoted l a source (w .visit a)))
 holds-after-idle w l a k c source m h i e = go (w .passage .status) refl
   where
     left : Holds (leftView w a k (w .passage) (w .visit a) c m) l
     left = holds-after-raised w l a k c m h i e
 
-    used : Holds (leftView w a k (w .passage) (w .visit a) c m) (noted l a source (w .visit a))
+    used : Holds (leftView w a k (w .passage) (w .visit a) c m) (ledgerNoted l a source (w .visit a))
     used = rw (noted-same w l a source h) left
 
     go :
         (s : Status) → w .passage .status ≡ s
-        → Holds (leftView w a k (w .passage) (w .visit a) c m) (cond (isFree s) noLedger (noted l a source (w .visit a)))
+        → Holds (leftView w a k (w .passage) (w .visit a) c m) (cond (isFree s) noLedger (ledgerNoted l a source (w .visit a)))
     go Status.Free y = free-again (leftView w a k (w .passage) (w .visit a) c m) l left y
     go Status.Active y = used
     go Status.Committing y = used

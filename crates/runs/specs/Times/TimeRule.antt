@@ -7,7 +7,7 @@ use mathlib.Core.List.{List}
 use Rattle.rules.specs.Tables.{visitAt}
 use Rattle.rules.specs.Runs.{Started, runOf, runRecordsOf}
 use Rattle.runs.specs.Types.{Tables, Step}
-use Rattle.runs.specs.Walk.Steps.{stepsOf, records-are-steps}
+use Rattle.runs.specs.Walk.Steps.{stepsRead, records-are-steps}
 use Rattle.runs.specs.Times.Ledgers.{kept-run}
 
 -- for every slot, and every two sites with a visit of that slot: the quiesce time of the one is at most the release time of the other
@@ -27,4 +27,4 @@ time-rule {t₀} fresh steps slot one other p i j e f =
 
 -- whatever records were run, of sixteen bytes or not
 pub time-rule-records : {t₀ : Tables} → Started t₀ → (records : List (List ℕ)) → TimeRule (runRecordsOf t₀ records)
-time-rule-records {t₀} fresh records = rw (records-are-steps t₀ records) (time-rule fresh (stepsOf records))
+time-rule-records {t₀} fresh records = rw (records-are-steps t₀ records) (time-rule fresh (stepsRead records))

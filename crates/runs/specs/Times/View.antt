@@ -57,5 +57,5 @@ abbrev pub notedPast : Ledger → Past → ℕ → Visit → Past
 notedPast l x source v = cond (v .there) (cond (x .seen) (relast x v) (firstSeen l source v)) x
 
 -- the ledger once this visit stands at site a; source is that of the message looked at
-abbrev pub noted : Ledger → ℕ → ℕ → Visit → Ledger
-noted l a source v = put l a (notedPast l (l a) source v)
+abbrev pub ledgerNoted : Ledger → ℕ → ℕ → Visit → Ledger
+ledgerNoted l a source v = put l a (notedPast l (l a) source v)

@@ -32,10 +32,10 @@ unfolding historyOf
 history-refused t s ss e = rw e
 
 -- one accepted step
-one-step :
+counted-step :
     (t : Tables) (step : Step) (s : ℕ) → Sound t → isAccepted (stepOf t step .answer) ≡ true
     → siteAt t s .clock + oneIf (actsAtSite step && eqb (placesOf t (lookOf step) .site) s) ≤ siteAt (stepOf t step .tables) s .clock
-one-step t step s z e =
+counted-step t step s z e =
     ⊎-elim
     (λ q.
     let a : actsAtSite step ≡ true = and-left (actsAtSite step) _ q in
@@ -56,7 +56,7 @@ steps-drive t (step ∷ ss) s z =
     ⊎-elim
     (λ e.
     let one : siteAt t s .clock + oneIf (actsAtSite step && eqb (placesOf t (lookOf step) .site) s) ≤ siteAt (stepOf t step .tables) s .clock =
-    one-step t step s z e in
+    counted-step t step s z e in
     rw e (omega arith))
     (λ e.
     let same : siteAt t s .clock ≤ siteAt (stepOf t step .tables) s .clock = clock-not-back t step z s in

@@ -147,9 +147,9 @@ abbrev pub knownStep : Reading → List Step → List Step
 knownStep Reading.Nothing ss = ss
 knownStep (Reading.Known s) ss = s ∷ ss
 
-unfoldable pub stepsOf : List (List ℕ) → List Step
-stepsOf [] = []
-stepsOf (r ∷ rs) = knownStep (stepOfRecord r) (stepsOf rs)
+unfoldable pub stepsRead : List (List ℕ) → List Step
+stepsRead [] = []
+stepsRead (r ∷ rs) = knownStep (stepOfRecord r) (stepsRead rs)
 
 no-step : (t : Tables) (r : List ℕ) → stepOfRecord r ≡ Reading.Nothing → stepRecordOf t r .tables ≡ t
 unfolding stepRecordOf recordInRangeOf
@@ -160,15 +160,15 @@ no-step t r e = rw e (both (inRange t))
     both false = refl
 
 one-record :
-    (t : Tables) (r : List ℕ) (rs : List (List ℕ)) → ((u : Tables) → runRecordsOf u rs ≡ runOf u (stepsOf rs))
+    (t : Tables) (r : List ℕ) (rs : List (List ℕ)) → ((u : Tables) → runRecordsOf u rs ≡ runOf u (stepsRead rs))
     → (x : Reading) → stepOfRecord r ≡ x
-    → runRecordsOf (stepRecordOf t r .tables) rs ≡ runOf t (knownStep x (stepsOf rs))
+    → runRecordsOf (stepRecordOf t r .tables) rs ≡ runOf t (knownStep x (stepsRead rs))
 unfolding runOf
 one-record t r rs rest Reading.Nothing e = ap (λ (u : Tables). runRecordsOf u rs) (no-step t r e) ∙ rest t
 one-record t r rs rest (Reading.Known s) e =
     ap (λ (o : Outcome). runRecordsOf (o .tables) rs) (record-is-step t r s e) ∙ rest (stepOf t s .tables)
 
-pub records-are-steps : (t : Tables) (rs : List (List ℕ)) → runRecordsOf t rs ≡ runOf t (stepsOf rs)
-unfolding runRecordsOf runOf stepsOf
+pub records-are-steps : (t : Tables) (rs : List (List ℕ)) → runRecordsOf t rs ≡ runOf t (stepsRead rs)
+unfolding runRecordsOf runOf stepsRead
 records-are-steps t [] = refl
 records-are-steps t (r ∷ rs) = one-record t r rs (λ u. records-are-steps u rs) (stepOfRecord r) refl

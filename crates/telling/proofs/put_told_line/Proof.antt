@@ -1,4 +1,4 @@
-use Rattle.telling.specs.Numbers.{numbersLine}
+use Rattle.telling.specs.Numbers.{numbersToldLine}
 use Rattle.telling.specs.Lengths.{place-digits, told-length}
 use Rattle.buffer.specs.Text.{put-both}
 use lib.ListN.{length}
@@ -21,7 +21,7 @@ put-byte-requires-2 : tie.Need-put-byte-requires-2
 put-byte-requires-2 c κs = omega (arith, place-digits (c .before .before .before .before .before .before .before .before .before .before .before .before .before .before .before .before .before .before .args .place) (c .before .before .before .before .before .before .before .before .before .before .before .before .before .before .before .before .before .before .pre .1), c .before .before .before .before .before .before .before .before .before .before .before .before .before .before .before .before .before .before .pre .2, told-length (c .before .before .before .before .before .before .before .before .before .before .before .before .before .before .before .before .before .before .args .number) (c .before .before .before .before .before .before .before .before .before .before .before .before .before .before .before .before .before .before .args .value))
 
 returns : tie.Need-returns
-unfolding numbersLine
+unfolding numbersToldLine
 returns c = let l : c .before .before .before .before .before .before .before .before .before .before .before .before .before .before .before .before .before .before .before .before .before .args .at ≤ length (c .before .before .before .before .before .before .before .before .before .before .before .before .before .before .before .before .before .before .before .before .before .args .out .now) = omega arith in
     let k : c .before .before .before .before .before .before .before .before .before .before .before .before .before .before .before .before .before .before .put-digits .result ≤ length (c .before .before .before .before .before .before .before .before .before .before .before .before .before .before .before .before .before .before .put-digits .last .0) = omega (arith, place-digits (c .before .before .before .before .before .before .before .before .before .before .before .before .before .before .before .before .before .before .before .before .before .args .place) (c .before .before .before .before .before .before .before .before .before .before .before .before .before .before .before .before .before .before .before .before .before .pre .1)) in
     put-both l (put-both l (put-both l (c .before .before .before .before .before .before .before .before .before .before .before .before .before .before .before .before .before .before .put-digits .ensures) (put-both k (c .before .before .before .before .before .before .before .before .before .before .before .before .before .before .put-byte .ensures) (c .before .before .before .before .before .before .before .before .before .before .put-record .ensures))) (c .before .before .before .before .before .before .put-answer .ensures)) (c .before .before .put-byte2 .ensures)

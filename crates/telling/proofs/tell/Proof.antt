@@ -3,7 +3,7 @@ use native.Mathlib.Omega.{arith}
 use mathlib.Core.Path.{_≡_, sym, _∙_}
 use lib.ListN.{length}
 use Rattle.rules.specs.Sheet.{sheetRecords}
-use Rattle.words.specs.Tell.{toldUpTo, toldOf, refusedSheet}
+use Rattle.words.specs.Tell.{toldUpTo, sheetTold, refusedSheet}
 use Rattle.running.specs.Answered.{answers-held}
 use Rattle.sheet.specs.Few.{taken-few}
 use Rattle.telling.proofs.Taken.{told-taken, told-refused}
@@ -14,7 +14,7 @@ use Rattle.telling.proofs.tell.Tie as tie
 returns : tie.Need-returns
 returns c =
     let l : length (c .before .before .before .before .before .args .out .now) ≡ 524288 = search needs in
-    let q : refusedSheet (c .before .before .before .sheet-answer .result) ≡ toldOf (c .before .before .before .before .before .args .sheet .now) = told-refused (c .before .before .before .before .before .args .sheet .now) (c .before .before .before .sheet-answer .result) (c .before .before .before .sheet-answer .ensures) (c .before .before .match .keys2) in
+    let q : refusedSheet (c .before .before .before .sheet-answer .result) ≡ sheetTold (c .before .before .before .before .before .args .sheet .now) = told-refused (c .before .before .before .before .before .args .sheet .now) (c .before .before .before .sheet-answer .result) (c .before .before .before .sheet-answer .ensures) (c .before .before .match .keys2) in
     (rw q at (c .put-refused-sheet .ensures .0), omega (arith, c .put-refused-sheet .ensures .1, c .put-refused-sheet .kept .0))
 
 run-requires : tie.Need-run-requires
@@ -35,7 +35,7 @@ returns-2 c =
     let taken = sym (c .before .before .before .before .before .before .before .before .before .sheet-answer .ensures) ∙ c .before .before .before .before .before .before .before .enum-told .given .1 in
     let few : length (sheetRecords (c .before .before .before .before .before .before .before .before .before .before .before .args .sheet .now)) / 16 ≤ 4095 = taken-few (c .before .before .before .before .before .before .before .before .before .before .before .args .sheet .now) taken in
     let m : c .put-told .result ≤ 128 * (length (sheetRecords (c .before .before .before .before .before .before .before .before .before .before .before .args .sheet .now)) / 16) = rw (c .before .before .before .before .before .before .sheet-records .ensures) at (c .put-told .ensures .1) in
-    let q : toldUpTo (c .before .before .before .before .before .before .sheet-records .result .now) (length (c .before .before .before .before .before .before .sheet-records .result .now) / 16) ≡ toldOf (c .before .before .before .before .before .before .before .before .before .before .before .args .sheet .now) = rw (c .before .before .before .before .before .before .sheet-records .ensures) (told-taken (c .before .before .before .before .before .before .before .before .before .before .before .args .sheet .now) taken) in
+    let q : toldUpTo (c .before .before .before .before .before .before .sheet-records .result .now) (length (c .before .before .before .before .before .before .sheet-records .result .now) / 16) ≡ sheetTold (c .before .before .before .before .before .before .before .before .before .before .before .args .sheet .now) = rw (c .before .before .before .before .before .before .sheet-records .ensures) (told-taken (c .before .before .before .before .before .before .before .before .before .before .before .args .sheet .now) taken) in
     (rw q at (c .put-told .ensures .0), omega (arith, c .put-told .kept .1 .1 .1 .0))
 
 pub tell-spec : {M : Type 1} → statement M

@@ -1,5 +1,5 @@
 -- `faults::found::line_start` meets its contract. The loop carries how many newlines are still to come behind the byte that it has come to. Assumes nothing.
-use Rattle.faults.proofs.Finding.{past-more, past-end}
+use Rattle.faults.proofs.Finding.{past-more, past-line-end}
 use Rattle.words.specs.Faults.{linesPast}
 use lib.ListN.{length, drop}
 use mathlib.Core.Path.{_≡_, refl, _∙_}
@@ -33,7 +33,7 @@ loop-again c =
 returns-2 : tie.Need-returns-2 Inv-loop μ-loop
 returns-2 c =
     let loop = c .before .loop in
-    (past-end (c .before .before .before .args .text .now) (loop .i) (loop .left) (search needs) ∙ loop .inv .0, loop .inv .1)
+    (past-line-end (c .before .before .before .args .text .now) (loop .i) (loop .left) (search needs) ∙ loop .inv .0, loop .inv .1)
 
 pub line-start-spec : {M : Type 1} → statement M
 line-start-spec =

@@ -1,4 +1,4 @@
-use Rattle.faults.proofs.Finding.{word-here, no-word-past}
+use Rattle.faults.proofs.Finding.{word-found-here, no-word-past}
 use borrow.Author.Needs.{needs}
 use Rattle.faults.proofs.found.no_word.Statement.{statement}
 use Rattle.faults.proofs.found.no_word.Tie as tie
@@ -6,7 +6,7 @@ use Rattle.faults.proofs.found.no_word.Tie as tie
 returns : tie.Need-returns
 returns c =
     let args = c .before .before .before .before .before .args in
-    rw (c .is-hash .ensures, c .before .is-space .ensures, word-here (args .line .now) (args .from) (c .before .before .before .if1 .taken))
+    rw (c .is-hash .ensures, c .before .is-space .ensures, word-found-here (args .line .now) (args .from) (c .before .before .before .if1 .taken))
 
 returns-2 : tie.Need-returns-2
 returns-2 c =

@@ -1,6 +1,6 @@
 use borrow.Author.Needs.{needs}
-use Rattle.scanning.proofs.line.begun.Statement.{statement}
-use Rattle.scanning.proofs.line.begun.Tie as tie
+use Rattle.scanning.proofs.line.token_begun.Statement.{statement}
+use Rattle.scanning.proofs.line.token_begun.Tie as tie
 
 lettered-requires : tie.Need-lettered-requires
 lettered-requires c κs = rw (c .before .is-letter .ensures) at (c .if1 .taken)
@@ -17,8 +17,8 @@ returns-2 c = rw (c .numbered .ensures, ← c .before .before .before .before .i
 returns-3 : tie.Need-returns-3
 returns-3 c = rw (c .wrong .ensures, ← c .before .before .before .before .is-letter .ensures, c .before .before .before .if1 .left, ← c .before .before .is-digit .ensures, c .before .if2 .left)
 
-pub begun-spec : {M : Type 1} → statement M
-begun-spec =
+pub token-begun-spec : {M : Type 1} → statement M
+token-begun-spec =
     tie.close
     (tie.spec
     (λ c κs. search needs)

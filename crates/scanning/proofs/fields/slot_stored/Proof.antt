@@ -1,8 +1,8 @@
 use borrow.Author.Tests.{ne-eqb}
 use native.Mathlib.Omega.{arith}
 use borrow.Author.Needs.{needs}
-use Rattle.scanning.proofs.fields.stored.Statement.{statement}
-use Rattle.scanning.proofs.fields.stored.Tie as tie
+use Rattle.scanning.proofs.fields.slot_stored.Statement.{statement}
+use Rattle.scanning.proofs.fields.slot_stored.Tie as tie
 
 put-one-requires : tie.Need-put-one-requires
 put-one-requires c κs = (omega arith, rw (c .if1 .taken) at (c .before .before .before .pre .1))
@@ -16,8 +16,8 @@ returns-2 c = rw (c .put-two .ensures, c .before .if2 .taken)
 returns-3 : tie.Need-returns-3
 returns-3 c = rw (c .put-four .ensures, ne-eqb (c .before .before .before .before .before .before .args .slot .width) 1 (c .before .before .before .if1 .left), ne-eqb (c .before .before .before .before .before .before .args .slot .width) 2 (c .before .if2 .left))
 
-pub stored-spec : {M : Type 1} → statement M
-stored-spec =
+pub slot-stored-spec : {M : Type 1} → statement M
+slot-stored-spec =
     tie.close
     (tie.spec
     (λ c. search needs)
