@@ -1,4 +1,4 @@
--- Laws of a trip through a site's slots: a turn may store the message that it saw, it counts at most one, and a trip counts from 0. Assumes nothing.
+-- Laws of a trip through a site's slots: what is seen of tables in range is sane, a turn counts at most one, and a trip counts from 0. Assumes nothing.
 use Prim.Native.Nat.{ℕ, _+_, _≤_}
 use native.Mathlib.Omega.{arith}
 use native.Mathlib.Nat.{le-refl}
@@ -22,29 +22,13 @@ use Rattle.rules.specs.Loops.{oneIf}
 use Rattle.rules.specs.LoopsLaws.{either}
 use Rattle.rules.specs.Answers.{answerValue, firstOf}
 use Rattle.rules.specs.Stations.{sweepOf, sweepChecks}
-use Rattle.rules.specs.StoredLaws.{Placed, turn-stored}
-use Rattle.rules.specs.Machine.{lookOf, placesOf, seenOf, stored, decideOf, headOf, countOne, tripPlaces, turnSeen, turnAnswer, turnOf}
+use Rattle.rules.specs.StoredLaws.{Placed}
+use Rattle.rules.specs.Machine.{lookOf, placesOf, seenOf, decideOf, headOf, countOne, turnOf}
 use Rattle.decisions.specs.Turns.{tripValue}
 
 -- what is seen of tables in range, at places that exist, is sane
 pub sane-at : (t : Tables) (at : Places) → inRange t ≡ true → Placed at → Sane (seenOf t at)
 sane-at t at r h = sane-seen (seenOf t at) (seen-in-range t at r h)
-
--- a turn as code makes it: the message goes back to its place with the rest
-abbrev pub turnMade : Trip → ℕ → Outcome → Outcome
-turnMade trip slot o =
-    record {
-      answer = turnAnswer trip (o .answer) (seenOf (o .tables) (tripPlaces trip slot));
-      tables =
-          stored
-          (o .tables)
-          (tripPlaces trip slot)
-          (turnSeen trip slot (seenOf (o .tables) (tripPlaces trip slot)));
-    }
-
-pub turn-is-made : (trip : Trip) (slot : ℕ) (o : Outcome) → turnMade trip slot o ≡ turnOf trip slot o
-unfolding turnOf
-turn-is-made trip slot o = rw (← turn-stored trip slot o)
 
 -- a turn counts at most one
 one-if-most : (b : Bool) → oneIf b ≤ 1

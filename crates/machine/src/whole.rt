@@ -4,6 +4,7 @@ use decisions::turns::trip_places;
 use decisions::turns::turn_answer;
 use decisions::turns::turn_count;
 use decisions::turns::turn_seen;
+use parts::message::no_message;
 use places::look::bank_place;
 use places::look::first_next;
 use places::look::is_message_of;
@@ -34,7 +35,7 @@ ghost use Rattle.rules.specs.Tables.{pastMessage, pastVisit, visitPlace};
 ghost use Rattle.rules.specs.Ranges.{inRange};
 ghost use Rattle.rules.specs.Parts.{isEmpty};
 ghost use Rattle.rules.specs.StoredLaws.{Placed};
-ghost use Rattle.rules.specs.Machine.{lookOf, placesOf, seenOf, isMessageOf, remains, stored, headOf, turnOf, turnsUpTo, stepInRangeOf};
+ghost use Rattle.rules.specs.Machine.{lookOf, placesOf, slotSeen, seenOf, isMessageOf, remains, storedSlot, stored, headOf, turnOf, turnsUpTo, stepInRangeOf};
 ghost use Rattle.rules.specs.Record.{recordInRangeOf};
 ghost use Rattle.decisions.specs.Turns.{tripValue};
 
@@ -74,20 +75,19 @@ fn places_of(t: Tables, look: Look) -> Places
     }
 }
 
-// The records that stand at these places.
-fn see(t: Tables, at: Places) -> Seen
+// The records that stand at these places, all but the message: no message is read.
+fn see_slot(t: Tables, at: Places) -> Seen
     requires { ⌜ Placed at ⌝ }
-    ensures { λ r. ⌜ r ≡ seenOf t at ⌝ }
+    ensures { λ r. ⌜ r ≡ slotSeen t at ⌝ }
 {
     let s = at.site;
     let p = at.slot;
     let b = 4 * at.bank;
     let v = 16 * s + p;
-    let m = at.message;
     let site = t.sites[s];
     let passage = t.passages[p];
     let visit = t.visits[v];
-    let message = t.messages[m];
+    let message = no_message();
     let objects = [
         t.objects[b],
         t.objects[b + 1],
@@ -103,20 +103,30 @@ fn see(t: Tables, at: Places) -> Seen
     }
 }
 
-// The tables with these records at these places.
-fn store(t: Tables, at: Places, left: Seen) -> Tables
+// The records that stand at these places.
+fn see(t: Tables, at: Places) -> Seen
     requires { ⌜ Placed at ⌝ }
-    ensures { λ r. ⌜ r ≡ stored t at left ⌝ }
+    ensures { λ r. ⌜ r ≡ seenOf t at ⌝ }
+{
+    let m = at.message;
+    let message = t.messages[m];
+    let mut seen = see_slot(t, at);
+    seen.message = message;
+    seen
+}
+
+// The tables with these records at these places, all but the message: the messages stay.
+fn store_slot(t: Tables, at: Places, left: Seen) -> Tables
+    requires { ⌜ Placed at ⌝ }
+    ensures { λ r. ⌜ r ≡ storedSlot t at left ⌝ }
 {
     let s = at.site;
     let p = at.slot;
     let b = 4 * at.bank;
     let v = 16 * s + p;
-    let m = at.message;
     let site = left.site;
     let passage = left.passage;
     let visit = left.visit;
-    let message = left.message;
     let objects = left.objects;
     let o0 = objects[0];
     let o1 = objects[1];
@@ -126,11 +136,22 @@ fn store(t: Tables, at: Places, left: Seen) -> Tables
     next.sites[s] = site;
     next.passages[p] = passage;
     next.visits[v] = visit;
-    next.messages[m] = message;
     next.objects[b] = o0;
     next.objects[b + 1] = o1;
     next.objects[b + 2] = o2;
     next.objects[b + 3] = o3;
+    next
+}
+
+// The tables with these records at these places.
+fn store(t: Tables, at: Places, left: Seen) -> Tables
+    requires { ⌜ Placed at ⌝ }
+    ensures { λ r. ⌜ r ≡ stored t at left ⌝ }
+{
+    let m = at.message;
+    let message = left.message;
+    let mut next = store_slot(t, at, left);
+    next.messages[m] = message;
     next
 }
 
@@ -191,7 +212,7 @@ fn head(t: Tables, step: Step, look: Look) -> Outcome
     }
 }
 
-// One slot of a sweep or a crash.
+// One slot of a sweep or a crash. No message is read or stored.
 fn turn(trip: Trip, slot: usize, o: Outcome) -> Outcome
     requires { ⌜ (slot < 16) × (tripValue trip (o .answer) ≤ slot) ⌝ }
     ensures { λ r. ⌜ r ≡ turnOf trip slot o ⌝ }
@@ -199,10 +220,10 @@ fn turn(trip: Trip, slot: usize, o: Outcome) -> Outcome
     let t = o.tables;
     let before = o.answer;
     let at = trip_places(trip, slot);
-    let seen = see(t, at);
+    let seen = see_slot(t, at);
     let answer = turn_answer(trip, before, seen);
     let left = turn_seen(trip, slot, seen);
-    let tables = store(t, at, left);
+    let tables = store_slot(t, at, left);
     Outcome {
         answer: answer,
         tables: tables,

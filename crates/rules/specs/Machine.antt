@@ -5,10 +5,10 @@ use lib.Dec.{eqb}
 use Rattle.rules.specs.Types.{Passage, Body, Message, Tables, Step, Refusal, Answer, MailAt, SlotAt, SiteAt, Trip, Look, Places, Found, Seen, Decision, Outcome}
 use Rattle.rules.specs.Limits.{messageMost}
 use Rattle.rules.specs.Loops.{oneIf, someUpTo, firstUpTo}
-use Rattle.rules.specs.Tables.{siteAt, passageAt, visitAt, messageAt, bankAt, putSite, putPassage, putVisit, putMessage, putBank, objectSite, slotOf}
+use Rattle.rules.specs.Tables.{noMessage, siteAt, passageAt, visitAt, messageAt, bankAt, putSite, putPassage, putVisit, putMessage, putBank, objectSite, slotOf}
 use Rattle.rules.specs.Ranges.{inRange}
 use Rattle.rules.specs.Answers.{isAccepted}
-use Rattle.rules.specs.Parts.{isEmpty}
+use Rattle.rules.specs.Parts.{isEmpty, leftMessage}
 use Rattle.rules.specs.Stations.{tickOf, sweepOf, isSwept, sweptSlot, crashOf, crashedSlot, recoverOf}
 use Rattle.rules.specs.Passages.{beginOf, abortOf, retireOf}
 use Rattle.rules.specs.Rounds.{refreshOf, terminateOf, prepareOf, askOf, closeOf, tellOf}
@@ -98,15 +98,19 @@ placesOf t look =
     let m : Message = messageAt t place in
     placesFor look place m (passageAt t (slotPlace (look .slot) m))
 
-abbrev pub seenOf : Tables → Places → Seen
-seenOf t at =
+-- all but the message: no message slot is read, and an empty message stands in its place
+abbrev pub slotSeen : Tables → Places → Seen
+slotSeen t at =
     record {
       site = siteAt t (at .site);
       passage = passageAt t (at .slot);
       visit = visitAt t (at .site) (at .slot);
-      message = messageAt t (at .message);
+      message = noMessage;
       objects = bankAt t (at .bank);
     }
+
+abbrev pub seenOf : Tables → Places → Seen
+seenOf t at = leftMessage (slotSeen t at) (messageAt t (at .message))
 
 -- "a visit or message of it remains": a message is of the passage whose slot its handle names
 abbrev pub isMessageOf : ℕ → Message → Bool
@@ -166,7 +170,7 @@ headOf t step =
 
 -- ---- the sixteen slots of a sweep and of a crash
 
--- where one slot of a site's sweep or crash is looked at
+-- where one slot of a site's sweep or crash is looked at; no message is, so the place of one does not matter
 abbrev pub slotPlaces : ℕ → ℕ → Places
 slotPlaces site slot =
     record { site = site % 8; slot = slot; bank = site % 8; message = 0 }
@@ -197,11 +201,11 @@ turnAnswer Trip.Nowhere answer seen = answer
 turnAnswer (Trip.Sweep site) answer seen = countOne answer (isSwept seen)
 turnAnswer (Trip.Crash site) answer seen = answer
 
--- one turn: look, change, store; no message is stored
+-- one turn: look, change, store; no message is read, and none is stored
 unfoldable pub turnOf : Trip → ℕ → Outcome → Outcome
 turnOf trip slot o =
     let at : Places = tripPlaces trip slot in
-    let seen : Seen = seenOf (o .tables) at in
+    let seen : Seen = slotSeen (o .tables) at in
     record {
       answer = turnAnswer trip (o .answer) seen;
       tables = storedSlot (o .tables) at (turnSeen trip slot seen);

@@ -5,11 +5,12 @@ use mathlib.Core.Path.{_≡_, refl, sym}
 use mathlib.Core.Logic.{_≢_, ⊎-elim}
 use lib.ListN.{length, length-set}
 use lib.Seq.{getD-set-same, getD-set-other, set-getD}
-use Rattle.rules.specs.Types.{Tables, Trip, Places, Seen, Outcome, Step}
+use Rattle.rules.specs.Types.{Message, Tables, Trip, Places, Seen, Outcome, Step}
 use Rattle.rules.specs.LoopsLaws.{either}
 use Rattle.rules.specs.Tables.{siteAt, passageAt, visitPlace, visitAt, messageAt, pastSite, pastPassage, pastVisit, pastMessage}
+use Rattle.rules.specs.Parts.{leftMessage}
 use Rattle.rules.specs.Stations.{isSwept, sweptSlot, crashedSlot}
-use Rattle.rules.specs.Machine.{seenOf, storedSlot, stored, tripPlaces, turnSeen, turnOf, lookOf, headOf, turnsUpTo, stepInRangeOf, stepOf}
+use Rattle.rules.specs.Machine.{slotSeen, seenOf, storedSlot, stored, tripPlaces, turnSeen, turnOf, lookOf, headOf, turnsUpTo, stepInRangeOf, stepOf}
 use Rattle.rules.specs.Ranges.{inRange}
 
 -- the lengths of the five tables: 8, 32, 16, 128, 32
@@ -37,19 +38,24 @@ stored-slot : (t : Tables) (at : Places) (left : Seen) → left .message ≡ mes
 unfolding stored
 stored-slot t at left e = rw e (simp set-getD)
 
--- a turn leaves the message that it saw
-turned-message : (trip : Trip) (slot : ℕ) (seen : Seen) → turnSeen trip slot seen .message ≡ seen .message
+-- a turn asks nothing of the message and leaves it: another message in what it saw is that message in what it leaves
+turn-apart :
+    (trip : Trip) (slot : ℕ) (seen : Seen) (m : Message)
+    → turnSeen trip slot (leftMessage seen m) ≡ leftMessage (turnSeen trip slot seen) m
 unfolding sweptSlot crashedSlot
-turned-message Trip.Nowhere slot seen = refl
-turned-message (Trip.Sweep site) slot seen = ⊎-elim (λ e. rw e) (λ e. rw e) (either (isSwept seen))
-turned-message (Trip.Crash site) slot seen = refl
+turn-apart Trip.Nowhere slot seen m = refl
+turn-apart (Trip.Sweep site) slot seen m = ⊎-elim (λ e. rw e) (λ e. rw e) (either (isSwept seen))
+turn-apart (Trip.Crash site) slot seen m = refl
 
--- so what a turn leaves is a store as any other
+-- so a turn is a store as any other: it might see the message too, and put it back
 pub turn-stored :
     (trip : Trip) (slot : ℕ) (o : Outcome)
     → turnOf trip slot o .tables ≡ stored (o .tables) (tripPlaces trip slot) (turnSeen trip slot (seenOf (o .tables) (tripPlaces trip slot)))
 unfolding turnOf
-turn-stored trip slot o = sym (stored-slot (o .tables) (tripPlaces trip slot) _ (turned-message trip slot _))
+turn-stored trip slot o =
+    let at : Places = tripPlaces trip slot in
+    rw (turn-apart trip slot (slotSeen (o .tables) at) (messageAt (o .tables) (at .message)))
+    (sym (stored-slot (o .tables) at _ refl))
 
 -- storing keeps the lengths
 pub sized-after-stored : (t : Tables) (at : Places) (left : Seen) → Sized t → Sized (stored t at left)

@@ -2,6 +2,7 @@
 // Who wants a listing, or words, or figures, takes the answers from here and knows nothing of the tables.
 use answers::answer_number;
 use decisions::turns::turn_count;
+use parts::message::no_message;
 use places::look::bank_place;
 use places::look::first_next;
 use places::look::mail_place;
@@ -44,6 +45,7 @@ fn put_answer(out: &mut [u64], at: usize, answer: Answer)
 // The tables live here and nowhere else: their elements are read and stored in place, and no table is copied.
 // Tables cannot be lent to another function, so this is one long function.
 // A record's work goes by turns, and one body serves the step's own turn and the slots of a sweep or a crash.
+// Only the step's own turn, which is the first, reads a message and stores one.
 pub fn run(part: &[u8], n: usize, out: &mut [u64])
     requires { ⌜ (16 * n ≤ length (now part)) × (2 * n ≤ length (now out)) ⌝ }
     ensures { λ r. ⌜ Puts (now (out .entry)) 0 (answeredUpTo (now (part .entry)) n) (now (out .exit)) (2 * n) ⌝ }
@@ -85,7 +87,11 @@ pub fn run(part: &[u8], n: usize, out: &mut [u64])
             let by = look.slot;
             let on = look.site;
             let m = mail_place(mail, empty);
-            let message = t.messages[m];
+            let message = if turn == 0 {
+                t.messages[m]
+            } else {
+                no_message()
+            };
             let p = slot_place(by, message);
             let passage = t.passages[p];
             let s = site_place(on, message, passage);
@@ -127,11 +133,13 @@ pub fn run(part: &[u8], n: usize, out: &mut [u64])
             t.sites[s] = site_left;
             t.passages[p] = passage_left;
             t.visits[v] = visit_left;
-            t.messages[m] = message_left;
             t.objects[b] = o0;
             t.objects[b + 1] = o1;
             t.objects[b + 2] = o2;
             t.objects[b + 3] = o3;
+            if turn == 0 {
+                t.messages[m] = message_left;
+            }
             answer = next;
             last = 1 + turn_count(trip, next);
             turn += 1;

@@ -3,6 +3,7 @@ use Prim.Native.Nat.{ℕ, zero, suc, _-_}
 use mathlib.Core.Bool.{cond}
 use lib.Dec.{eqb}
 use Rattle.rules.specs.declared.tables.Tables.{Tables}
+use Rattle.rules.specs.declared.tables.Message.{Message}
 use Rattle.rules.specs.declared.steps.Step.{Step}
 use Rattle.rules.specs.declared.steps.Reading.{Reading}
 use Rattle.rules.specs.declared.outcomes.Answer.{Answer}
@@ -11,12 +12,14 @@ use Rattle.rules.specs.declared.looking.Found.{Found}
 use Rattle.rules.specs.declared.looking.Look.{Look}
 use Rattle.rules.specs.declared.looking.MailAt.{MailAt}
 use Rattle.rules.specs.declared.outcomes.Outcome.{Outcome}
+use Rattle.rules.specs.declared.looking.Places.{Places}
 use Rattle.rules.specs.declared.outcomes.Refusal.{Refusal}
 use Rattle.rules.specs.declared.looking.Seen.{Seen}
 use Rattle.rules.specs.declared.looking.SiteAt.{SiteAt}
 use Rattle.rules.specs.declared.looking.SlotAt.{SlotAt}
 use Rattle.rules.specs.declared.looking.Trip.{Trip}
-use Rattle.rules.specs.Machine.{looks, looksSite, lookOf, decideOf, headOf, tripSite, turnSeen, turnAnswer, turnOf}
+use Rattle.rules.specs.Tables.{messageAt, noMessage}
+use Rattle.rules.specs.Machine.{looks, looksSite, lookOf, decideOf, storedSlot, stored, headOf, tripSite, turnSeen, turnAnswer, turnOf}
 
 -- ---- where a turn looks
 
@@ -69,6 +72,16 @@ slotDone trip slot before seen =
 abbrev pub turnDone : Reading → Trip → ℕ → Found → Answer → Seen → Decision
 turnDone reading trip turn found before seen =
     cond (eqb turn 0) (readingDone reading found seen) (slotDone trip (turn - 1) before seen)
+
+-- ---- the message of a turn, and what a turn stores
+
+-- the first turn sees the message at its place; the turn of a slot reads none
+abbrev pub turnMessage : ℕ → Tables → ℕ → Message
+turnMessage turn t place = cond (eqb turn 0) (messageAt t place) noMessage
+
+-- the first turn stores all that it leaves; the turn of a slot stores all but the message
+abbrev pub turnStored : ℕ → Tables → Places → Seen → Tables
+turnStored turn t at left = cond (eqb turn 0) (stored t at left) (storedSlot t at left)
 
 -- ---- the work on whole tables
 

@@ -23,16 +23,17 @@ use Rattle.rules.specs.declared.looking.Trip.{Trip}
 use Rattle.rules.specs.Loops.{someUpTo}
 use Rattle.rules.specs.LoopsLaws.{either, or-left, or-right, some-none, none-some}
 use Rattle.rules.specs.Tables.{messageAt, passageAt, visitAt, slotOf}
+use Rattle.rules.specs.Parts.{leftMessage}
 use Rattle.rules.specs.Ranges.{inRange}
 use Rattle.rules.specs.Sane.{Sane}
 use Rattle.rules.specs.Answers.{isAccepted}
 use Rattle.rules.specs.StoredLaws.{Placed, stored-seen}
 use Rattle.rules.specs.RefusedLaws.{turns-keep}
-use Rattle.rules.specs.Machine.{lowestEmpty, mailPlace, slotPlace, sitePlace, bankPlace, placesFor, placesOf, seenOf, isMessageOf, remains, lookOf, decideOf, stored, headOf, tripPlaces, turnSeen, turnAnswer, turnOf, turnsUpTo, turnCount, stepInRangeOf}
+use Rattle.rules.specs.Machine.{lowestEmpty, mailPlace, slotPlace, sitePlace, bankPlace, placesFor, placesOf, slotSeen, seenOf, isMessageOf, remains, lookOf, decideOf, storedSlot, headOf, tripPlaces, turnSeen, turnAnswer, turnOf, turnsUpTo, turnCount, stepInRangeOf}
 use Rattle.rules.specs.Record.{readingOf}
 use Rattle.decisions.specs.Turns.{tripValue}
-use Rattle.decisions.specs.TurnsLaws.{sane-at, turn-is-made, turn-counts, trip-starts, turn-count-most}
-use Rattle.work.specs.Work.{readingLook, turnLook, stepScan, scanCount, readingDone, turnDone, readingHead, workUpTo}
+use Rattle.decisions.specs.TurnsLaws.{sane-at, turn-counts, trip-starts, turn-count-most}
+use Rattle.work.specs.Work.{readingLook, turnLook, stepScan, scanCount, readingDone, turnDone, turnMessage, turnStored, readingHead, workUpTo}
 
 -- ---- what remains of a slot, found in one pass over the messages
 
@@ -149,8 +150,8 @@ abbrev turnPlaces : Look → ℕ → Tables → Places
 turnPlaces look place t =
     placesFor look place (messageAt t place) (passageAt t (slotPlace (look .slot) (messageAt t place)))
 
-abbrev made : Tables → Places → Decision → Outcome
-made t at d = record { answer = d .answer; tables = stored t at (d .left) }
+abbrev made : ℕ → Tables → Places → Decision → Outcome
+made turn t at d = record { answer = d .answer; tables = turnStored turn t at (d .left) }
 
 -- the first turn is the head
 first-turn :
@@ -158,6 +159,7 @@ first-turn :
     → (scanCount r ≡ 32 → empty ≡ lowestEmpty t)
     → (scanCount r ≡ 32 → rest ≡ remains t (slotPlace (readingLook r .slot) (messageAt t 0)))
     → made
+    0
     t
     (turnPlaces (readingLook r) (mailPlace (readingLook r .mail) empty) t)
     (readingDone
@@ -171,22 +173,23 @@ first-turn t Reading.Nothing empty rest e f =
 first-turn t (Reading.Known step) empty rest e f =
     rw (empty-asked step empty (lowestEmpty t) e)
     (ap
-    (made t (placesOf t (lookOf step)))
+    (made 0 t (placesOf t (lookOf step)))
     (rest-asked t step (messageAt t 0) (record { place = placesOf t (lookOf step) .message; remains = rest }) (seenOf t (placesOf t (lookOf step))) f))
 
 -- a later turn is that of its slot
 slot-turn :
     (trip : Trip) (k : ℕ) (t : Tables) (before : Answer) → k < 16
-    → made
-    t
-    (tripPlaces trip (slotOf k))
-    (record {
-      answer = turnAnswer trip before (seenOf t (tripPlaces trip (slotOf k)));
-      left = turnSeen trip k (seenOf t (tripPlaces trip (slotOf k)));
-    })
+    → record {
+      answer = turnAnswer trip before (slotSeen t (tripPlaces trip (slotOf k)));
+      tables =
+          storedSlot
+          t
+          (tripPlaces trip (slotOf k))
+          (turnSeen trip k (slotSeen t (tripPlaces trip (slotOf k))));
+    }
     ≡ turnOf trip k (record { answer = before; tables = t })
-slot-turn trip k t before h =
-    let e : slotOf k ≡ k = omega arith in rw e (turn-is-made trip k (record { answer = before; tables = t }))
+unfolding turnOf
+slot-turn trip k t before h = let e : slotOf k ≡ k = omega arith in rw e
 
 -- ---- the turns of the work are the head and then the turns of the trip
 
@@ -253,14 +256,15 @@ pub record Working (t₀ : Tables) (r : Reading) (t : Tables) (answer : Answer) 
   pub end : last ≡ lastTurn (readingLook r .trip) turn answer
   pub most : turn ≤ last
 
--- one turn: where it looked, and what it decided
-pub record Turned (r : Reading) (empty : ℕ) (rest : Bool) (t : Tables) (before : Answer) (turn : ℕ) (look : Look) (m p s b : ℕ) (d : Decision) : Type 0 where
+-- one turn: where it looked, which message it saw, and what it decided
+pub record Turned (r : Reading) (empty : ℕ) (rest : Bool) (t : Tables) (before : Answer) (turn : ℕ) (look : Look) (message : Message) (m p s b : ℕ) (d : Decision) : Type 0 where
   pub looked : look ≡ turnLook (readingLook r) turn
   pub mail : m ≡ mailPlace (look .mail) empty
-  pub slot : p ≡ slotPlace (look .slot) (messageAt t m)
-  pub site : s ≡ sitePlace (look .site) (messageAt t m) (passageAt t p)
-  pub bank : b ≡ bankPlace (look .site) (messageAt t m) s
-  pub decided : d ≡ turnDone r (readingLook r .trip) turn (record { place = m; remains = rest }) before (seenOf t (placesBy s p b m))
+  pub read : message ≡ turnMessage turn t m
+  pub slot : p ≡ slotPlace (look .slot) message
+  pub site : s ≡ sitePlace (look .site) message (passageAt t p)
+  pub bank : b ≡ bankPlace (look .site) message s
+  pub decided : d ≡ turnDone r (readingLook r .trip) turn (record { place = m; remains = rest }) before (leftMessage (slotSeen t (placesBy s p b m)) message)
 
 pub working-starts : (t : Tables) (r : Reading) → Working t r t (Answer.Refused Refusal.NoStep) 0 1
 unfolding workUpTo
@@ -283,45 +287,50 @@ module _ (t₀ : Tables) (r : Reading) (t : Tables) (answer : Answer) where
 
   -- what the first turn sees is sane
   pub working-sane :
-      (turn last : ℕ) (at : Places) → Working t₀ r t answer turn last → inRange t₀ ≡ true → Placed at → turn ≡ 0
-      → Sane (seenOf t at)
-  working-sane zero last at w e h z = rw (← working-first last w) (sane-at t₀ at e h)
-  working-sane (suc k) last at w e h z = absurd (omega arith)
+      (turn last : ℕ) (at : Places) (message : Message)
+      → Working t₀ r t answer turn last
+      → inRange t₀ ≡ true
+      → Placed at
+      → message ≡ turnMessage turn t (at .message)
+      → turn ≡ 0
+      → Sane (leftMessage (slotSeen t at) message)
+  working-sane zero last at message w e h q z = rw (q, ← working-first last w) (sane-at t₀ at e h)
+  working-sane (suc k) last at message w e h q z = absurd (omega arith)
 
   working-accepted : (k last : ℕ) → Working t₀ r t answer (suc k) last → isAccepted answer ≡ isAccepted (readingHead t₀ r .answer)
   working-accepted k last w = rw (w .done) at (work-accepted t₀ r k)
 
   turned-done :
-      (empty : ℕ) (rest : Bool) (turn last : ℕ) (look : Look) (m p s b : ℕ) (d : Decision)
+      (empty : ℕ) (rest : Bool) (turn last : ℕ) (look : Look) (message : Message) (m p s b : ℕ) (d : Decision)
       → Working t₀ r t answer turn last
       → turn < last
       → (scanCount r ≡ 32 → empty ≡ lowestEmpty t₀)
       → (scanCount r ≡ 32 → rest ≡ remains t₀ (slotPlace (readingLook r .slot) (messageAt t₀ 0)))
-      → Turned r empty rest t answer turn look m p s b d
-      → workUpTo t₀ r (suc turn) ≡ made t (placesBy s p b m) d
+      → Turned r empty rest t answer turn look message m p s b d
+      → workUpTo t₀ r (suc turn) ≡ made turn t (placesBy s p b m) d
   unfolding workUpTo
-  turned-done empty rest zero last look m p s b d w l e f u =
-      rw (u .decided, u .bank, u .site, u .slot, u .mail, u .looked, ← working-first last w) (sym (first-turn t₀ r empty rest e f))
-  turned-done empty rest (suc k) last look m p s b d w l e f u =
+  turned-done empty rest zero last look message m p s b d w l e f u =
+      rw (u .decided, u .bank, u .site, u .slot, u .read, u .mail, u .looked, ← working-first last w) (sym (first-turn t₀ r empty rest e f))
+  turned-done empty rest (suc k) last look message m p s b d w l e f u =
       let h : last ≤ 17 = working-most (suc k) last w in
-      rw (u .decided, u .bank, u .site, u .slot, u .mail, u .looked, later-turn k, one-less k) (ap (turnOf (readingLook r .trip) k) (w .done) ∙ sym (slot-turn (readingLook r .trip) k t answer (omega arith)))
+      rw (u .decided, u .bank, u .site, u .slot, u .read, u .mail, u .looked, later-turn k, one-less k) (ap (turnOf (readingLook r .trip) k) (w .done) ∙ sym (slot-turn (readingLook r .trip) k t answer (omega arith)))
 
   pub working-next :
-      (empty : ℕ) (rest : Bool) (turn last : ℕ) (look : Look) (m p s b : ℕ) (d : Decision)
+      (empty : ℕ) (rest : Bool) (turn last : ℕ) (look : Look) (message : Message) (m p s b : ℕ) (d : Decision)
       → Working t₀ r t answer turn last
       → turn < last
       → (scanCount r ≡ 32 → empty ≡ lowestEmpty t₀)
       → (scanCount r ≡ 32 → rest ≡ remains t₀ (slotPlace (readingLook r .slot) (messageAt t₀ 0)))
-      → Turned r empty rest t answer turn look m p s b d
-      → Working t₀ r (stored t (placesBy s p b m) (d .left)) (d .answer) (turn + 1) (1 + turnCount (readingLook r .trip) (d .answer))
-  working-next empty rest turn last look m p s b d w l e f u =
-      let q : workUpTo t₀ r (suc turn) ≡ made t (placesBy s p b m) d =
-      turned-done empty rest turn last look m p s b d w l e f u in
+      → Turned r empty rest t answer turn look message m p s b d
+      → Working t₀ r (turnStored turn t (placesBy s p b m) (d .left)) (d .answer) (turn + 1) (1 + turnCount (readingLook r .trip) (d .answer))
+  working-next empty rest turn last look message m p s b d w l e f u =
+      let q : workUpTo t₀ r (suc turn) ≡ made turn t (placesBy s p b m) d =
+      turned-done empty rest turn last look message m p s b d w l e f u in
       rw (add-one turn) (record { done = q; end = refl; most = enough turn w l q })
     where
       enough :
           (turn : ℕ) → Working t₀ r t answer turn last → turn < last
-          → workUpTo t₀ r (suc turn) ≡ made t (placesBy s p b m) d
+          → workUpTo t₀ r (suc turn) ≡ made turn t (placesBy s p b m) d
           → suc turn ≤ 1 + turnCount (readingLook r .trip) (d .answer)
       enough zero w l q = omega arith
       enough (suc k) w l q =

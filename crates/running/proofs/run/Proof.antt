@@ -4,7 +4,9 @@ use native.Mathlib.Omega.{arith}
 use native.Mathlib.Numerals.{add-one}
 use mathlib.Core.Path.{_≡_, refl, _∙_}
 use mathlib.Core.Bool.{_||_}
+use mathlib.Core.Logic.{⊎-elim}
 use borrow.Author.Needs.{needs}
+use borrow.Author.Tests.{eq-eqb, ne-eqb}
 use lib.ListN.{length}
 use Rattle.rules.specs.Loops.{firstUpTo, someUpTo}
 use Rattle.rules.specs.Parts.{isEmpty}
@@ -13,7 +15,7 @@ use Rattle.rules.specs.Machine.{lowestEmpty, slotPlace, isMessageOf, remains, s
 use Rattle.rules.specs.Listing.{printedUpTo}
 use Rattle.buffer.specs.Text.{Puts, put-none}
 use Rattle.decisions.specs.TurnsLaws.{turn-count-most}
-use Rattle.work.specs.Work.{readingLook, scanCount}
+use Rattle.work.specs.Work.{readingLook, scanCount, turnMessage, turnStored}
 use Rattle.work.specs.WorkLaws.{placesBy, scan-most, Working, Turned, working-starts, working-counts, working-most, working-sane, working-next, working-done, rest-found}
 use Rattle.running.specs.Answered.{answeredUpTo}
 use Rattle.running.proofs.Printed.{printed-in-range, outcome-next, answered-next}
@@ -82,15 +84,22 @@ decide-turn-requires c κs =
     let banked = c .before .before .before .before .before .before in
     let sited = banked .before in
     let slotted = sited .before .before in
-    let mailed = slotted .before .before in
+    let read = slotted .before in
+    let mailed = read .before in
     let turned = mailed .before .before .before in
     let looked = turned .before .before .before .before .before .before in
     let loop = looked .before .before .before .before in
     let work = turned .loop3 in
     let part = loop .before .before .before .before .args .part .now in
-    let h : work .last ≤ 17 = working-most _ _ _ _ (work .turn) _ (work .inv) in (
+    let h : work .last ≤ 17 = working-most _ _ _ _ (work .turn) _ (work .inv) in
+    let q : read .if1 .message ≡ turnMessage (work .turn) (work .t) (mailed .mail-place .result) =
+    ⊎-elim
+    (λ w. rw (eq-eqb (work .turn) 0 (w .0 .taken)) (w .2))
+    (λ w. rw (ne-eqb (work .turn) 0 (w .0 .left)) (w .2 ∙ w .1 .ensures))
+    (read .if1 .came) in (
       working-sane _ _ _ _ (work .turn) _
           (placesBy (sited .site-place .result) (slotted .slot-place2 .result) (banked .bank-place .result) (mailed .mail-place .result))
+          (read .if1 .message)
           (work .inv)
           (rw (loop .loop .inv .0) (printed-in-range part (loop .loop .i)))
           (record {
@@ -98,27 +107,28 @@ decide-turn-requires c κs =
             slot = slotted .slot-place2 .ensures .1;
             bank = banked .bank-place .ensures .1;
             message = mailed .mail-place .ensures .1;
-          }),
+          })
+          q,
       omega arith,
       rw (looked .reading-look .ensures) (working-counts _ _ _ _ (work .turn) _ (work .inv)),
     )
 
 mul-message-left : tie.Need-mul-message-left Inv-loop2 μ-loop2 Inv-loop3 μ-loop3 Inv-loop μ-loop
 mul-message-left c =
-    let mailed = c .before .before .before .before .before .before .before .before .before .before .before .before .before .before .before .before .before .before .before .before .before .before .mail-place in
+    let mailed = c .before .before .before .before .before .before .before .before .before .before .before .before .before .before .before .before .before .before .before .before .before .before .before .mail-place in
     let h : mailed .result < 32 = mailed .ensures .1 in
     search needs
 
 element-set-from-message-left :
     tie.Need-element-set-from-message-left Inv-loop2 μ-loop2 Inv-loop3 μ-loop3 Inv-loop μ-loop
 element-set-from-message-left c =
-    let mailed = c .before .before .before .before .before .before .before .before .before .before .before .before .before .before .before .before .before .before .before .before .before .before .mail-place in
+    let mailed = c .before .before .before .before .before .before .before .before .before .before .before .before .before .before .before .before .before .before .before .before .before .before .before .mail-place in
     let h : mailed .result < 32 = mailed .ensures .1 in
     search needs
 
 add-last : tie.Need-add-last Inv-loop2 μ-loop2 Inv-loop3 μ-loop3 Inv-loop μ-loop
 add-last c =
-    let decided = c .before .before .before .before .before .before .before .before .before .before .before in
+    let decided = c .before .before .before .before .before .before .before .before .before .before .before .before in
     let looked = decided .before .before .before .before .before .before .before .before .before .before .before .before .before .before .before .before .before .before .before .before .before in
     let h : c .turn-count .result ≤ 16 =
     rw (c .turn-count .ensures) (turn-count-most (looked .reading-look .result .trip) (decided .decide-turn .result .answer)) in
@@ -126,7 +136,7 @@ add-last c =
 
 add-turn : tie.Need-add-turn Inv-loop2 μ-loop2 Inv-loop3 μ-loop3 Inv-loop μ-loop
 add-turn c =
-    let test = c .before .before .before .before .before .before .before .before .before .before .before .before .before .before .before .before .before .before .before .before .before .before .before .before .before in
+    let test = c .before .before .before .before .before .before .before .before .before .before .before .before .before .before .before .before .before .before .before .before .before .before .before .before .before .before in
     let work = test .before .loop3 in
     let h : work .last ≤ 17 = working-most _ _ _ _ (work .turn) _ (work .inv) in
     let l : work .turn < work .last = test .loop3-test .taken in
@@ -134,7 +144,7 @@ add-turn c =
 
 loop3-less : tie.Need-loop3-less Inv-loop2 μ-loop2 Inv-loop3 μ-loop3 Inv-loop μ-loop
 loop3-less c =
-    let test = c .before .before .before .before .before .before .before .before .before .before .before .before .before .before .before .before .before .before .before .before .before .before .before .before .before in
+    let test = c .before .before .before .before .before .before .before .before .before .before .before .before .before .before .before .before .before .before .before .before .before .before .before .before .before .before in
     let work = test .before .loop3 in
     let h : work .last ≤ 17 = working-most _ _ _ _ (work .turn) _ (work .inv) in
     let l : work .turn < work .last = test .loop3-test .taken in
@@ -143,11 +153,13 @@ loop3-less c =
 loop3-again : tie.Need-loop3-again Inv-loop2 μ-loop2 Inv-loop3 μ-loop3 Inv-loop μ-loop
 unfolding stored lowestEmpty
 loop3-again c =
-    let decided = c .before .before .before .before .before .before .before .before .before .before .before in
+    let kept = c .before in
+    let decided = kept .before .before .before .before .before .before .before .before .before .before .before in
     let banked = decided .before .before .before .before .before .before .before in
     let sited = banked .before in
     let slotted = sited .before .before in
-    let mailed = slotted .before .before in
+    let read = slotted .before in
+    let mailed = read .before in
     let turned = mailed .before in
     let test = turned .before in
     let work = test .before .loop3 in
@@ -156,9 +168,12 @@ loop3-again c =
     let asked = all .before .before in
     let counted = asked .before .before in
     let looked = counted .before in
-    let read = looked .before in
-    let reading = read .read-record .result in
-    let t = read .before .before .before .loop .t in
+    let record-read = looked .before in
+    let reading = record-read .read-record .result in
+    let t = record-read .before .before .before .loop .t in
+    let at =
+    placesBy (sited .site-place .result) (slotted .slot-place2 .result) (banked .bank-place .result) (mailed .mail-place .result) in
+    let left = decided .decide-turn .result .left in
     let k : scanCount reading ≡ 32 → scan .k ≡ 32 =
     λ h. omega (arith, all .loop2-test .left, scan .inv .2, counted .scan-count .ensures, h) in
     let e : scanCount reading ≡ 32 → scan .empty ≡ lowestEmpty t = λ h. rw (k h) at (scan .inv .0) in
@@ -166,8 +181,14 @@ loop3-again c =
     λ h.
     rw (← looked .reading-look .ensures, ← asked .slot-place .ensures .0)
     ((rw (k h) at (scan .inv .1)) ∙ rest-found t (asked .slot-place .result)) in
+    let q : read .if1 .message ≡ turnMessage (work .turn) (work .t) (mailed .mail-place .result) =
+    ⊎-elim
+    (λ w. rw (eq-eqb (work .turn) 0 (w .0 .taken)) (w .2))
+    (λ w. rw (ne-eqb (work .turn) 0 (w .0 .left)) (w .2 ∙ w .1 .ensures))
+    (read .if1 .came) in
     let u :
     Turned reading (scan .empty) (scan .rest) (work .t) (work .answer) (work .turn) (turned .turn-look .result)
+    (read .if1 .message)
     (mailed .mail-place .result)
     (slotted .slot-place2 .result)
     (sited .site-place .result)
@@ -176,13 +197,19 @@ loop3-again c =
     record {
       looked = rw (← looked .reading-look .ensures) (turned .turn-look .ensures);
       mail = mailed .mail-place .ensures .0;
+      read = q;
       slot = slotted .slot-place2 .ensures .0;
       site = sited .site-place .ensures .0;
       bank = banked .bank-place .ensures .0;
       decided = rw (← looked .reading-look .ensures) (decided .decide-turn .ensures);
     } in
-    rw (c .turn-count .ensures, looked .reading-look .ensures)
-    (working-next t reading (work .t) (work .answer) (scan .empty) (scan .rest) (work .turn) (work .last) _ _ _ _ _ (decided .decide-turn .result) (work .inv) (test .loop3-test .taken) e f u)
+    let z : kept .if2 .t ≡ turnStored (work .turn) (work .t) at left =
+    ⊎-elim
+    (λ w. rw (eq-eqb (work .turn) 0 (w .0 .taken)) (w .1))
+    (λ w. rw (ne-eqb (work .turn) 0 (w .0 .left)) (w .1))
+    (kept .if2 .came) in
+    rw (z, c .turn-count .ensures, looked .reading-look .ensures)
+    (working-next t reading (work .t) (work .answer) (scan .empty) (scan .rest) (work .turn) (work .last) _ _ _ _ _ _ (decided .decide-turn .result) (work .inv) (test .loop3-test .taken) e f u)
 
 loop-again : tie.Need-loop-again Inv-loop2 μ-loop2 Inv-loop3 μ-loop3 Inv-loop μ-loop
 loop-again c =
@@ -225,7 +252,7 @@ run-spec =
     loop2-again
     loop3-holds
     turn-look-requires
-    (λ c κs. search needs) (λ c. search needs) (λ c. search needs) (λ c κs. search needs)
+    (λ c κs. search needs) (λ c. search needs) (λ c. search needs) (λ c κs. search needs) (λ c κs. search needs)
     (λ c. search needs) (λ c. search needs) (λ c κs. search needs) (λ c κs. search needs)
     (λ c. search needs) (λ c. search needs) (λ c. search needs) (λ c. search needs) (λ c. search needs)
     (λ c. search needs) (λ c. search needs) (λ c. search needs) (λ c. search needs) (λ c. search needs)
@@ -234,11 +261,12 @@ run-spec =
     decide-turn-requires
     (λ c. search needs) (λ c. search needs) (λ c. search needs) (λ c. search needs) (λ c. search needs)
     (λ c. search needs) (λ c. search needs) (λ c. search needs) (λ c. search needs) (λ c. search needs)
+    (λ c. search needs) (λ c. search needs) (λ c. search needs) (λ c. search needs) (λ c. search needs)
+    (λ c. search needs) (λ c. search needs) (λ c. search needs) (λ c. search needs) (λ c. search needs)
+    (λ c. search needs)
     mul-message-left
     element-set-from-message-left
-    (λ c. search needs) (λ c. search needs) (λ c. search needs) (λ c. search needs) (λ c. search needs)
-    (λ c. search needs) (λ c. search needs) (λ c. search needs) (λ c. search needs) (λ c. search needs)
-    (λ c. search needs) (λ c κs. search needs)
+    (λ c κs. search needs)
     add-last
     add-turn
     loop3-less
