@@ -7,7 +7,7 @@ use mathlib.Core.List.{List, [], _∷_, _++_, map}
 use lib.ListN.{replicate}
 use Rattle.rules.specs.Types.{Tables, Step, Answer}
 use Rattle.rules.specs.Tables.{start, siteAt, objectAt}
-use Rattle.rules.specs.Loops.{everyUpTo, someUpTo, sumUpTo, mostUpTo, firstUpTo}
+use Rattle.rules.specs.Loops.{joined, everyUpTo, someUpTo, sumUpTo, mostUpTo, firstUpTo}
 use Rattle.rules.specs.Ranges.{countsInRange, roundInRange, inRange}
 use Rattle.rules.specs.Answers.{firstOf, answerNumber, answerValue}
 use Rattle.rules.specs.Parts.{sentTo, isClosed, largestQuiesce, answerCount}
@@ -38,10 +38,6 @@ abbrev pub refused : ℕ → List ℕ
 refused number = number ∷ 0 ∷ []
 
 -- ---- what the definitions give for a row, and what the row wants, as lists of numbers
-
-abbrev pub joined : List (List ℕ) → List ℕ
-joined [] = []
-joined (x ∷ xs) = x ++ joined xs
 
 abbrev pub answerPair : Answer → List ℕ
 answerPair a = answerNumber a ∷ answerValue a ∷ []

@@ -1,7 +1,13 @@
--- Loops up to n, over what stands at each index: all, any, the sum, the largest, the first. Assumes nothing.
+-- Loops up to n, over what stands at each index: all, any, the sum, the largest, the first; and lists joined to one. Assumes nothing.
 use Prim.Native.Nat.{ℕ, zero, suc, _+_, max}
 use mathlib.Core.Bool.{Bool, true, false, cond, _&&_, _||_}
+use mathlib.Core.List.{List, [], _∷_, _++_}
 use lib.Dec.{eqb}
+
+-- lists, one after the other
+abbrev pub joined : List (List ℕ) → List ℕ
+joined [] = []
+joined (x ∷ xs) = x ++ joined xs
 
 -- 1 for true, 0 for false
 abbrev pub oneIf : Bool → ℕ

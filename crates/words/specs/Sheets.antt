@@ -10,11 +10,6 @@ use Rattle.words.specs.Scan.{Read, textRead}
 use Rattle.words.specs.Say.{textBytes}
 use Rattle.words.specs.Faults.{lineBehind, faultLine}
 
--- records, one after the other
-abbrev pub joined : List (List ℕ) → List ℕ
-joined [] = []
-joined (b ∷ bs) = b ++ joined bs
-
 -- "The trailer is a distance in four bytes, .. then the bytes "PASS"."
 abbrev pub trailerOf : ℕ → List ℕ
 trailerOf distance = longBytes distance ++ (80 ∷ 65 ∷ 83 ∷ 83 ∷ [])

@@ -7,6 +7,7 @@ use mathlib.Core.List.{List, [], _∷_, _++_, append-nil, append-assoc}
 use borrow.Author.Tests.{le-ltb, eqb-true}
 use lib.ListN.{length, getD, take, drop, length-append, length-take, length-drop}
 use lib.Seq.{take-add, take-length, getD-append-add, getD-take, getD-drop, take-append-seam}
+use Rattle.rules.specs.Loops.{joined}
 use Rattle.rules.specs.declared.steps.SheetAnswer.{SheetAnswer}
 use Rattle.rules.specs.RecordLaws.{Bytes16}
 use Rattle.rules.specs.Record.{longBytes}
@@ -15,7 +16,7 @@ use Rattle.rules.specs.SheetLaws.{Whole, taken-whole, taken-length, records-six
 use Rattle.words.specs.Scan.{blank, Read, textRead}
 use Rattle.words.specs.Say.{recordText, linesText}
 use Rattle.words.specs.Tell.{plainUpTo, plainOf}
-use Rattle.words.specs.Sheets.{joined, sheetOf, isMarked, unmarked}
+use Rattle.words.specs.Sheets.{sheetOf, isMarked, unmarked}
 use lib.Dec.{eqb}
 use Rattle.words.specs.TextLaws.{Records, going, text-read}
 use mathlib.Core.Bool.{true, false, _&&_, true≢false}

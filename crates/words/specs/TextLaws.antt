@@ -9,6 +9,7 @@ use mathlib.Core.List.{List, [], _∷_, _++_, append-nil, append-assoc}
 use borrow.Author.Tests.{lt-ltb, ne-eqb}
 use lib.Dec.{ltb, eqb}
 use lib.ListN.{length, length-append}
+use Rattle.rules.specs.Loops.{joined}
 use Rattle.rules.specs.LoopsLaws.{cond-keeps}
 use Rattle.rules.specs.Listing.{spelt}
 use Rattle.rules.specs.ListingLaws.{spelt-length, digits-length}
@@ -18,7 +19,6 @@ use Rattle.words.specs.Types.{Scan, Step, Reading}
 use Rattle.words.specs.Grammar.{rawWord}
 use Rattle.words.specs.Scan.{blank, scanNext, scanAll, Read, reading, readerNext, givesRecord, given, readNext, readAll, textRead}
 use Rattle.words.specs.Say.{Token, lettersOf, wordText, tokenText, restText, writeTokens, readTokens, readValueTokens, otherTokens, operationTokens, firstWord, moreTokens, stepText, hexDigit, hexText, rawText, recordBy, recordText, linesText}
-use Rattle.words.specs.Sheets.{joined}
 use Rattle.words.specs.StepLaws.{Says}
 use Rattle.words.specs.RecordLaws.{record-says}
 
