@@ -4,12 +4,12 @@ use rules::tables::Holder;
 use rules::tables::Object;
 use rules::tables::Told;
 ghost use mathlib.Core.Path.{_≡_};
-ghost use Rattle.rules.specs.Parts.{isHeldBy, isHeldByOther, unheld, taken, operated, freed, restored, eachOf, toldObjects};
+ghost use Rattle.rules.specs.Parts.{isSlot, isHeldByOther, unheld, taken, operated, freed, restored, eachOf, toldObjects};
 
-fn is_held_by(slot: u8, o: Object) -> bool
-    ensures { λ r. ⌜ r ≡ isHeldBy slot o ⌝ }
+// The holder alone is handed over: a whole object would be copied in every turn of a sweep.
+fn is_slot(slot: u8, holder: Holder) -> bool
+    ensures { λ r. ⌜ r ≡ isSlot slot holder ⌝ }
 {
-    let holder = o.holder;
     match holder {
         Holder::Nobody => false,
         Holder::Slot(k) => k == slot,
@@ -71,7 +71,8 @@ pub fn unheld(value: u32) -> Object
 fn freed(slot: u8, o: Object) -> Object
     ensures { λ r. ⌜ r ≡ freed slot o ⌝ }
 {
-    if is_held_by(slot, o) {
+    let holder = o.holder;
+    if is_slot(slot, holder) {
         unheld(o.value)
     } else {
         o
@@ -82,7 +83,8 @@ fn freed(slot: u8, o: Object) -> Object
 fn restored(slot: u8, o: Object) -> Object
     ensures { λ r. ⌜ r ≡ restored slot o ⌝ }
 {
-    if is_held_by(slot, o) {
+    let holder = o.holder;
+    if is_slot(slot, holder) {
         unheld(o.before)
     } else {
         o

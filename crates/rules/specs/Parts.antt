@@ -195,8 +195,12 @@ countReceived v =
 abbrev pub isUnheld : Object → Bool
 isUnheld o = elim (o .holder) [ Holder.Nobody ↦ true | Holder.Slot k ↦ false ]
 
+abbrev pub isSlot : ℕ → Holder → Bool
+isSlot p Holder.Nobody = false
+isSlot p (Holder.Slot k) = eqb k p
+
 abbrev pub isHeldBy : ℕ → Object → Bool
-isHeldBy p o = elim (o .holder) [ Holder.Nobody ↦ false | Holder.Slot k ↦ eqb k p ]
+isHeldBy p o = isSlot p (o .holder)
 
 -- "object held by another passage"
 abbrev pub isHeldByOther : ℕ → Object → Bool
