@@ -1,12 +1,12 @@
 // What was seen, as a whole: with another site in it, and what its message says of clock, slot and home.
-// Each function equals the definition of the same name in rules' specs/Parts.antt or specs/Calls.antt.
+// Each function equals the definition of the same name in rules' specs/Seen.antt or specs/Calls.antt.
 use rules::looking::Seen;
 use rules::tables::Site;
 ghost use Prim.Native.Nat.{max};
 ghost use mathlib.Core.Path.{_≡_};
 ghost use Rattle.rules.specs.Sane.{Sane};
 ghost use Rattle.rules.specs.Calls.{mailClock, mailSlot, atHome};
-ghost use Rattle.rules.specs.Parts.{leftSite};
+ghost use Rattle.rules.specs.Seen.{leftSite};
 
 // What was seen, with another site.
 pub fn left_site(seen: Seen, site: Site) -> Seen

@@ -9,7 +9,8 @@ use Rattle.rules.specs.Types.{Object, Figures, Status, Passage, Visit, C
 use Rattle.rules.specs.Limits.{widthMost, countMost, objectMost}
 use Rattle.rules.specs.Tables.{objectSite, slotOf, pastObject, noMessage}
 use Rattle.rules.specs.Answers.{refuse, firstOf, settleOf}
-use Rattle.rules.specs.Parts.{nextClock, deliveryClock, isFree, isPhaseOne, withStatus, withRound, newVisit, countSent, countReceived, isHeldByOther, taken, operated, withAnswer, askedVisit, askedStatus, toldVisit, toldObjects, toldStatus, asksLife, tellsLife, plainMessage, answerMessage, leftPassage, leftVisit, leftMessage, leftObjects, atClock}
+use Rattle.rules.specs.Parts.{nextClock, deliveryClock, isFree, isPhaseOne, withStatus, withRound, newVisit, countSent, countReceived, isHeldByOther, taken, operated, withAnswer, askedVisit, askedStatus, toldVisit, toldObjects, toldStatus, asksLife, tellsLife, plainMessage, answerMessage}
+use Rattle.rules.specs.Seen.{leftPassage, leftVisit, leftMessage, leftObjects, atClock}
 use Rattle.rules.specs.Checks.{badSite, badHandle, badMessage, noPassage, noMail, siteDown, visitMissing, clockFull, isFull}
 
 -- ---- 3. invoke h, a=site, b=0 read or 1 write, c=object, u=value (0 for read). Value: message slot.

@@ -9,6 +9,7 @@ pub mod Ranges
 pub mod Answers
 pub mod AnswersLaws
 pub mod Parts
+pub mod Seen
 pub mod Checks
 pub mod Stations
 pub mod Passages

@@ -8,7 +8,8 @@ use Rattle.rules.specs.Loops.{oneIf, someUpTo, firstUpTo}
 use Rattle.rules.specs.Tables.{noMessage, siteAt, passageAt, visitAt, messageAt, bankAt, putSite, putPassage, putVisit, putMessage, putBank, objectSite, slotOf}
 use Rattle.rules.specs.Ranges.{inRange}
 use Rattle.rules.specs.Answers.{isAccepted}
-use Rattle.rules.specs.Parts.{isEmpty, leftMessage}
+use Rattle.rules.specs.Parts.{isEmpty}
+use Rattle.rules.specs.Seen.{leftMessage}
 use Rattle.rules.specs.Stations.{tickOf, sweepOf, isSwept, sweptSlot, crashOf, crashedSlot, recoverOf}
 use Rattle.rules.specs.Passages.{beginOf, abortOf, retireOf}
 use Rattle.rules.specs.Rounds.{refreshOf, terminateOf, prepareOf, askOf, closeOf, tellOf}

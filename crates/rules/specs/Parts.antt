@@ -5,7 +5,7 @@ use mathlib.Core.List.{List, [], _∷_}
 use lib.Bits.{bitOr}
 use lib.Dec.{eqb}
 use lib.ListN.{getD, set, replicate}
-use Rattle.rules.specs.Types.{Site, Holder, Object, Figures, Kind, Phase, Round, Status, Passage, Visit, Call, Asked, Told, Body, Message, Seen}
+use Rattle.rules.specs.Types.{Site, Holder, Object, Figures, Kind, Phase, Round, Status, Passage, Visit, Call, Asked, Told, Body, Message}
 use Rattle.rules.specs.Loops.{oneIf, everyUpTo, sumUpTo, mostUpTo}
 use Rattle.rules.specs.Tables.{pastObject, pastFigures, noCounts, noFigures, noVisit}
 
@@ -382,29 +382,3 @@ answerMessage v source home handle stamp =
       stamp = stamp;
       sent = v .sent;
     }
-
--- ---- what was seen, with one record changed
-
-abbrev pub leftSite : Seen → Site → Seen
-leftSite seen s =
-    record { site = s; passage = seen .passage; visit = seen .visit; message = seen .message; objects = seen .objects }
-
-abbrev pub leftPassage : Seen → Passage → Seen
-leftPassage seen p =
-    record { site = seen .site; passage = p; visit = seen .visit; message = seen .message; objects = seen .objects }
-
-abbrev pub leftVisit : Seen → Visit → Seen
-leftVisit seen v =
-    record { site = seen .site; passage = seen .passage; visit = v; message = seen .message; objects = seen .objects }
-
-abbrev pub leftMessage : Seen → Message → Seen
-leftMessage seen m =
-    record { site = seen .site; passage = seen .passage; visit = seen .visit; message = m; objects = seen .objects }
-
-abbrev pub leftObjects : Seen → List Object → Seen
-leftObjects seen os =
-    record { site = seen .site; passage = seen .passage; visit = seen .visit; message = seen .message; objects = os }
-
--- "first moves its clock"
-abbrev pub atClock : Seen → ℕ → Seen
-atClock seen clock = leftSite seen (clockTo (seen .site) clock)

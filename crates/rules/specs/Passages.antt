@@ -8,7 +8,8 @@ use Rattle.rules.specs.Types.{Status, Passage, Refusal, Check, Seen, Dec
 use Rattle.rules.specs.Limits.{slotMost}
 use Rattle.rules.specs.Tables.{handleOf, freeSlot}
 use Rattle.rules.specs.Answers.{refuse, firstOf, settleOf}
-use Rattle.rules.specs.Parts.{nextClock, isFree, isRunning, isOver, abortedPassage, whereThere, quieted, newVisit, withHome, leftPassage, leftVisit, atClock, withStatus}
+use Rattle.rules.specs.Parts.{nextClock, isFree, isRunning, isOver, abortedPassage, whereThere, quieted, newVisit, withHome, withStatus}
+use Rattle.rules.specs.Seen.{leftPassage, leftVisit, atClock}
 use Rattle.rules.specs.Checks.{badSite, badHandle, badTimes, noPassage, siteDown, clockFull}
 
 -- ---- 2. begin a=home, b=slot, u=Q, v=R, Q ≤ R. "Makes an active passage and its home visit, round 0, no calls. Value: handle."

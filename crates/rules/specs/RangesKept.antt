@@ -17,7 +17,8 @@ use Rattle.rules.specs.Tables.{pastObject, start}
 use Rattle.rules.specs.Ranges.{countsInRange, kindInRange, phaseFits, roundInRange, askedInRange, toldInRange, bodyInRange, inRange}
 use Rattle.rules.specs.Answers.{isAccepted, firstOf, settleOf}
 use Rattle.rules.specs.AnswersLaws.{Fine, holdsOf, accepted-fine}
-use Rattle.rules.specs.Parts.{clockTo, nextClock, countSent, restored, eachOf, openedRound, askedOf, askedVisit, withUp, leftSite}
+use Rattle.rules.specs.Parts.{clockTo, nextClock, countSent, restored, eachOf, openedRound, askedOf, askedVisit, withUp}
+use Rattle.rules.specs.Seen.{leftSite}
 use Rattle.rules.specs.Checks.{badSite, badHandle, badTimes}
 use Rattle.rules.specs.Stations.{tickOf, sweepOf, sweptSlot, crashOf, crashedSlot, recoverOf}
 use Rattle.rules.specs.Passages.{beginOf, abortOf, retireOf}

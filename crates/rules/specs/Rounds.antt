@@ -8,7 +8,8 @@ use Rattle.rules.specs.Types.{Object, Kind, Phase, Round, Passage, Visit
 use Rattle.rules.specs.Limits.{countMost}
 use Rattle.rules.specs.Tables.{slotOf}
 use Rattle.rules.specs.Answers.{refuse, firstOf, settleOf}
-use Rattle.rules.specs.Parts.{nextClock, isActive, isRunning, isAborted, isPhaseOne, isPhaseTwo, withPhase, whereThere, figuresOf, hasAnswered, withAnswer, openedRound, isClosed, largestQuiesce, answerCount, askedOf, toldOf, askedVisit, askedStatus, toldVisit, toldObjects, toldStatus, plainMessage, leftPassage, leftVisit, leftMessage, leftObjects, atClock, withStatus, withRound}
+use Rattle.rules.specs.Parts.{nextClock, isActive, isRunning, isAborted, isPhaseOne, isPhaseTwo, withPhase, whereThere, figuresOf, hasAnswered, withAnswer, openedRound, isClosed, largestQuiesce, answerCount, askedOf, toldOf, askedVisit, askedStatus, toldVisit, toldObjects, toldStatus, plainMessage, withStatus, withRound}
+use Rattle.rules.specs.Seen.{leftPassage, leftVisit, leftMessage, leftObjects, atClock}
 use Rattle.rules.specs.Checks.{badSite, badHandle, badTimes, noPassage, siteDown, visitMissing, clockFull, isFull}
 
 -- ---- 4. refresh h, u=Q, v=R. 5. terminate h. 6. prepare h.

@@ -8,7 +8,8 @@ use Rattle.rules.specs.Types.{Passage, Visit, Refusal, Check, Seen, Deci
 use Rattle.rules.specs.Limits.{tickMost}
 use Rattle.rules.specs.Tables.{noVisit}
 use Rattle.rules.specs.Answers.{refuse, firstOf, settleOf}
-use Rattle.rules.specs.Parts.{clockTo, nextClock, isActive, isRunning, abortedPassage, whereThere, quieted, restored, eachOf, leftSite, leftPassage, leftVisit, leftObjects, atClock, withUp}
+use Rattle.rules.specs.Parts.{clockTo, nextClock, isActive, isRunning, abortedPassage, whereThere, quieted, restored, eachOf, withUp}
+use Rattle.rules.specs.Seen.{leftSite, leftPassage, leftVisit, leftObjects, atClock}
 use Rattle.rules.specs.Checks.{badSite, siteDown, clockFull}
 
 -- ---- 1. tick a=site, u=n, 1..1,000,000. Value: the clock.

@@ -8,7 +8,7 @@ use lib.Seq.{getD-set-same, getD-set-other, set-getD}
 use Rattle.rules.specs.Types.{Message, Tables, Trip, Places, Seen, Outcome, Step}
 use Rattle.rules.specs.LoopsLaws.{either}
 use Rattle.rules.specs.Tables.{siteAt, passageAt, visitPlace, visitAt, messageAt, pastSite, pastPassage, pastVisit, pastMessage}
-use Rattle.rules.specs.Parts.{leftMessage}
+use Rattle.rules.specs.Seen.{leftMessage}
 use Rattle.rules.specs.Stations.{isSwept, sweptSlot, crashedSlot}
 use Rattle.rules.specs.Machine.{slotSeen, seenOf, storedSlot, stored, tripPlaces, turnSeen, turnOf, lookOf, headOf, turnsUpTo, stepInRangeOf, stepOf}
 use Rattle.rules.specs.Ranges.{inRange}

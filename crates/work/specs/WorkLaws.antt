@@ -23,7 +23,7 @@ use Rattle.rules.specs.declared.looking.Trip.{Trip}
 use Rattle.rules.specs.Loops.{someUpTo}
 use Rattle.rules.specs.LoopsLaws.{either, or-left, or-right, some-none, none-some}
 use Rattle.rules.specs.Tables.{messageAt, passageAt, visitAt, slotOf}
-use Rattle.rules.specs.Parts.{leftMessage}
+use Rattle.rules.specs.Seen.{leftMessage}
 use Rattle.rules.specs.Ranges.{inRange}
 use Rattle.rules.specs.Sane.{Sane}
 use Rattle.rules.specs.Answers.{isAccepted}

@@ -8,7 +8,8 @@ use lib.Dec.{eqb}
 use borrow.Author.Tests.{leb-true}
 use Rattle.rules.specs.LoopsLaws.{either, and-left, and-right}
 use Rattle.rules.specs.Tables.{siteAt, passageAt, visitAt, messageAt, noVisit, slotOf}
-use Rattle.rules.specs.Parts.{isFree, isActive, abortedPassage, quieted, whereThere, leftSite}
+use Rattle.rules.specs.Parts.{isFree, isActive, abortedPassage, quieted, whereThere}
+use Rattle.rules.specs.Seen.{leftSite}
 use Rattle.rules.specs.Stations.{isSwept, sweptSlot, losesHome, crashedSlot}
 use Rattle.rules.specs.Calls.{lost}
 use Rattle.rules.specs.Machine.{seenOf, slotPlaces}

@@ -16,7 +16,8 @@ use Rattle.rules.specs.LoopsLaws.{either, or-left, or-right}
 use Rattle.rules.specs.Tables.{pastObject, siteAt, passageAt, visitAt, messageAt, bankAt, objectSite, slotOf, noMessage}
 use Rattle.rules.specs.Answers.{isAccepted, firstOf, settleOf}
 use Rattle.rules.specs.AnswersLaws.{Fine, accepted-fine}
-use Rattle.rules.specs.Parts.{nextClock, isHeldBy, isHeldByOther, freed, restored, eachOf, whereThere, askedVisit, toldVisit, toldObjects, askedOf, plainMessage, leftSite}
+use Rattle.rules.specs.Parts.{nextClock, isHeldBy, isHeldByOther, freed, restored, eachOf, whereThere, askedVisit, toldVisit, toldObjects, askedOf, plainMessage}
+use Rattle.rules.specs.Seen.{leftSite}
 use Rattle.rules.specs.Checks.{badSite, badHandle}
 use Rattle.rules.specs.Rounds.{sentOut, roundTold, closed, openOf, closeOf}
 use Rattle.rules.specs.Calls.{callSite, badCall, mailClock, mailSlot, atHome, replyOf, askedAt, calledVisit, calledObject, called, invokeOf, emptyOf, deliverCallOf, deliverPhaseOneOf, deliverPhaseTwoOf, deliverAnswerOf, deliverBodyOf, lost, dropOf}

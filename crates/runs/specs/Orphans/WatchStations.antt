@@ -8,7 +8,8 @@ use lib.Dec.{eqb}
 use Rattle.rules.specs.declared.looking.Trip.{Trip}
 use Rattle.rules.specs.LoopsLaws.{cond-keeps}
 use Rattle.rules.specs.Tables.{siteAt, passageAt, visitAt}
-use Rattle.rules.specs.Parts.{isActive, leftSite}
+use Rattle.rules.specs.Parts.{isActive}
+use Rattle.rules.specs.Seen.{leftSite}
 use Rattle.rules.specs.Stations.{isSwept, losesHome, sweptSlot, crashedSlot}
 use Rattle.rules.specs.Machine.{seenOf, slotPlaces, tripPlaces, turnSeen}
 use Rattle.runs.specs.Types.{Site, Tables, Places}
