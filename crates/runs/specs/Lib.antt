@@ -8,3 +8,5 @@ pub mod Holders
 pub mod Orphans
 pub mod Promises
 pub mod Events
+pub mod Moves
+pub mod Commits

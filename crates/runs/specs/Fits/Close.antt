@@ -97,7 +97,7 @@ module _ (w : View) (l : Ledger) (a source : ℕ) (h : Holds w l)
 
 -- ---- the step
 
-one-says : (p : Phase) → isPhaseOne p ≡ true → p ≡ Phase.One
+pub one-says : (p : Phase) → isPhaseOne p ≡ true → p ≡ Phase.One
 one-says Phase.None e = absurd (false≢true e)
 one-says Phase.One e = refl
 one-says Phase.Two e = absurd (false≢true e)

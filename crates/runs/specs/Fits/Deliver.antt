@@ -49,16 +49,16 @@ module _ (t : Tables) (at : Places) (m : ℕ) (own : slotOf (messageAt t (at .me
 
   module _ (b : Body) (body : letter .body ≡ b) (full : isEmpty b ≡ false) where
     -- the slot sees the message itself
-    letter-seen : view .mail (at .message) ≡ letter
+    pub letter-seen : view .mail (at .message) ≡ letter
     letter-seen = own-mail (at .slot) letter (ap isEmpty body ∙ full) own
 
-    letter-body : view .mail (at .message) .body ≡ b
+    pub letter-body : view .mail (at .message) .body ≡ b
     letter-body = own-body (at .slot) letter b body full own
 
-    letter-here : at .site ≡ view .mail (at .message) .destination
+    pub letter-here : at .site ≡ view .mail (at .message) .destination
     letter-here = here ∙ sym (ap (λ (x : Message). x .destination) letter-seen)
 
-    letter-away : view .mail (at .message) .destination ≢ passageAt t (at .slot) .home → atHome seen ≡ false
+    pub letter-away : view .mail (at .message) .destination ≢ passageAt t (at .slot) .home → atHome seen ≡ false
     letter-away n =
         ne-eqb
         (letter .destination)
@@ -232,11 +232,11 @@ abbrev pub deliverAt : Tables → ℕ → Places
 deliverAt t m = placesOf t (lookOf (Step.Deliver m))
 
 module _ (t : Tables) (m : ℕ) (range : inRange t ≡ true) where
-  deliver-own : slotOf (messageAt t (deliverAt t m .message) .handle) ≡ deliverAt t m .slot
+  pub deliver-own : slotOf (messageAt t (deliverAt t m .message) .handle) ≡ deliverAt t m .slot
   unfolding placesOf
   deliver-own = refl
 
-  deliver-here : deliverAt t m .site ≡ messageAt t (deliverAt t m .message) .destination
+  pub deliver-here : deliverAt t m .site ≡ messageAt t (deliverAt t m .message) .destination
   unfolding placesOf
   deliver-here =
       let i : messageAt t (deliverAt t m .message) .destination ≤ 7 =
@@ -247,7 +247,7 @@ module _ (t : Tables) (m : ℕ) (range : inRange t ≡ true) where
       .destination in
       omega arith
 
-  deliver-in : deliverAt t m .message < 32
+  pub deliver-in : deliverAt t m .message < 32
   deliver-in = placed-places t (lookOf (Step.Deliver m)) .message
 
   pub fitting-after-deliver-call :

@@ -74,7 +74,7 @@ unfolding placesOf
 fitting-after-dropped t m = fitting-after-lost t (placesOf t (lookOf (Step.Drop m))) refl
 
 module _ (t : Tables) (range : inRange t ≡ true) where
-  fitting-after-decided :
+  pub fitting-after-decided :
       (step : Step)
       → isAccepted
       (decideOf step (foundOf t (placesAt t step)) (seenAt t step) .answer)
@@ -118,7 +118,7 @@ module _ (t : Tables) (range : inRange t ≡ true) where
 
 -- ---- so the invariant is kept
 
-kept-after-head :
+pub kept-after-head :
     (t : Tables) (step : Step) (ls : ℕ → Ledger) → Kept t ls → isAccepted (headOf t step .answer) ≡ true
     → Kept (headOf t step .tables) (headLedgers t step ls)
 unfolding headOf
@@ -148,14 +148,14 @@ kept-after-head t step ls k e =
           (k .slots);
     }
 
-fitting-after-turned :
+pub fitting-after-turned :
     (t : Tables) (trip : Trip) (slot : ℕ)
     → Fitting t (tripPlaces trip slot) (turnSeen trip slot (seenOf t (tripPlaces trip slot)))
 fitting-after-turned t Trip.Nowhere slot = fitting-after-same t (tripPlaces Trip.Nowhere slot)
 fitting-after-turned t (Trip.Sweep site) slot = fitting-after-swept t site slot
 fitting-after-turned t (Trip.Crash site) slot = fitting-after-crashed t site slot
 
-kept-after-turn :
+pub kept-after-turn :
     (trip : Trip) (slot : ℕ) (o : Outcome) (ls : ℕ → Ledger) → slot < 16 → Kept (o .tables) ls
     → Kept (turnOf trip slot o .tables) (turnLedgers trip slot (o .tables) ls)
 kept-after-turn trip slot o ls i k =
@@ -184,7 +184,7 @@ kept-after-turn trip slot o ls i k =
 
 -- ---- and holds at the start
 
-kept-at-start : Kept start (λ p. noLedger)
+pub kept-at-start : Kept start (λ p. noLedger)
 unfolding start
 kept-at-start =
     record {
