@@ -2,3 +2,4 @@
 pub mod Vow
 pub mod VowKept
 pub mod Pledged
+pub mod Since

@@ -9,7 +9,7 @@ use Rattle.rules.specs.Tables.{noVisit, noRound, noMessage}
 use Rattle.rules.specs.Parts.{isFree, isActive, isRunning, isAborted, isPhaseOne, isPhaseTwo, isClosed, hasAnswered, abortedPassage, quieted, newVisit, whereThere, askedOf, askedVisit, toldVisit, toldOf, toldStatus, largestQuiesce}
 use Rattle.rules.specs.Rounds.{roundTold, openedPassage, closedPassage}
 use Rattle.rules.specs.Calls.{calledVisit}
-use Rattle.runs.specs.Types.{Kind, Phase, Status, Passage, Visit, Call, Asked, Told, Body, Message}
+use Rattle.runs.specs.Types.{Kind, Phase, Status, Passage, Visit, Call, Asked, Told, Body, Message, Step}
 use Rattle.runs.specs.Walk.Says.{isRefresh, isBinding, isPrepare, bodyKind, tellsPrepare, carriesCommit}
 use Rattle.runs.specs.Walk.Plain.{when-true, when-false}
 use Rattle.runs.specs.Walk.Put.{put, put-all}
@@ -342,7 +342,7 @@ module _ (w : View) (l : Ledger) (a k c source : ℕ) (v : Visit) (m : Message) 
 
   -- of a slot that the step leaves free nothing is in flight
   pub vow-moved :
-      (p : Passage) → (p .status ≡ Status.Free → (i : ℕ) → put (w .mail) k m i .body ≡ Body.Empty) → Move w a k p v c m
+      {step : Step} (p : Passage) → (p .status ≡ Status.Free → (i : ℕ) → put (w .mail) k m i .body ≡ Body.Empty) → Move step w a k p v c m
       → After p
   vow-moved p none (Move.Rests e x i (inl y)) = vow-stays p (as-it-was p e) (here-marked (x .there) (x .prepared) (x .round)) (sent-same p (as-it-was p e) y)
   vow-moved p none (Move.Rests e x i (inr y)) = vow-stays p (as-it-was p e) (here-marked (x .there) (x .prepared) (x .round)) (sent-plain p y)
@@ -369,7 +369,7 @@ module _ (w : View) (l : Ledger) (a k c source : ℕ) (v : Visit) (m : Message) 
   vow-moved p none (Move.Begins free status round i y) =
       vow-silent p (rw (status, round)) round
       (put-all (w .mail) k m (λ j x. x .body ≡ Body.Empty) (ap (λ (x : Message). x .body) y ∙ h .free free .mail k) (λ j n. h .free free .mail j))
-  vow-moved p none (Move.Retires status round x i) = vow-silent p (rw status tt) round (none status)
+  vow-moved p none (Move.Retires g status round x i) = vow-silent p (rw status tt) round (none status)
   vow-moved p none (Move.Opens kind from home was e x i y) = subst After (sym e) (vow-opened kind from was x y)
   vow-moved p none (Move.Closes home one closed e x i y) = subst After (sym e) (vow-closed one closed x y)
   vow-moved p none (Move.Aborts runs e x i y) = subst After (sym e) (vow-aborted y runs)

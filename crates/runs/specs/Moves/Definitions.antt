@@ -10,7 +10,8 @@ use Rattle.rules.specs.Tables.{noVisit, noRound, noMessage}
 use Rattle.rules.specs.Parts.{isActive, isRunning, isClosed, abortedPassage, withRound, withAnswer, whereThere, quieted, countReceived, askedOf, askedVisit, toldVisit}
 use Rattle.rules.specs.Rounds.{roundTold, openedPassage, closedPassage}
 use Rattle.rules.specs.Calls.{calledVisit}
-use Rattle.runs.specs.Types.{Kind, Phase, Status, Passage, Visit, Call, Asked, Told, Body, Message}
+use Rattle.rules.specs.Record.{isStep}
+use Rattle.runs.specs.Types.{Kind, Phase, Status, Passage, Visit, Call, Asked, Told, Body, Message, Step}
 use Rattle.runs.specs.Walk.Says.{isPrepare, bodyKind, carriesCommit}
 use Rattle.runs.specs.Times.View.{View}
 use Rattle.runs.specs.Times.Clauses.{sentFigures}
@@ -43,57 +44,57 @@ OpenedFrom Kind.Prepare s = isRunning s ≡ true
 
 -- ---- a step's own store
 
-pub data Move (w : View) (a k : ℕ) (p : Passage) (v : Visit) (c : ℕ) (m : Message) : Type 0 where
+pub data Move (step : Step) (w : View) (a k : ℕ) (p : Passage) (v : Visit) (c : ℕ) (m : Message) : Type 0 where
   -- the clock moves, a count grows, a message that is no word goes out or is lost
   Rests :
       p ≡ w .passage → Alike (w .visit a) v → w .clock a ≤ c → (m ≡ w .mail k) ⊎ Plain m
-      → Move w a k p v c m
+      → Move step w a k p v c m
   -- home tells a site what its round has closed with
   Tells :
       p ≡ w .passage → v ≡ w .visit a → w .clock a ≤ c → a ≡ w .passage .home
       → w .passage .round .phase ≡ Phase.Two → isAnswer (m .body) ≡ false
       → (carriesCommit (m .body) ≡ true → (isPrepare (w .passage .round .kind) ≡ true) × (m .stamp ≡ c))
-      → Move w a k p v c m
+      → Move step w a k p v c m
   Begins :
       w .passage .status ≡ Status.Free → p .status ≡ Status.Active → p .round ≡ noRound → w .clock a ≤ c
-      → m ≡ w .mail k → Move w a k p v c m
-  Retires : p .status ≡ Status.Free → p .round ≡ noRound → v ≡ w .visit a → w .clock a ≤ c → Move w a k p v c m
+      → m ≡ w .mail k → Move step w a k p v c m
+  Retires : isStep 16 step ≡ true → p .status ≡ Status.Free → p .round ≡ noRound → v ≡ w .visit a → w .clock a ≤ c → Move step w a k p v c m
   Opens :
       (kind : Kind) → OpenedFrom kind (w .passage .status) → a ≡ w .passage .home → w .visit a .there ≡ true
       → p ≡ openedPassage kind (w .passage) v
       → v ≡ askedVisit (askedOf kind) (w .passage .round .number + 1) c (w .visit a)
-      → w .clock a < c → m ≡ w .mail k → Move w a k p v c m
+      → w .clock a < c → m ≡ w .mail k → Move step w a k p v c m
   Closes :
       a ≡ w .passage .home → w .passage .round .phase ≡ Phase.One → isClosed (w .passage .round) ≡ true
       → p ≡ closedPassage (roundTold (w .passage .round)) (w .passage)
       → v ≡ whereThere (w .visit a) (toldVisit (roundTold (w .passage .round)) (w .visit a))
-      → w .clock a < c → m ≡ w .mail k → Move w a k p v c m
+      → w .clock a < c → m ≡ w .mail k → Move step w a k p v c m
   Aborts :
       isRunning (w .passage .status) ≡ true → p ≡ abortedPassage (w .passage)
       → v ≡ whereThere (w .visit a) (quieted (w .visit a) c false (w .visit a .dead))
-      → w .clock a < c → m ≡ w .mail k → Move w a k p v c m
+      → w .clock a < c → m ≡ w .mail k → Move step w a k p v c m
   -- a call is delivered
   Receives :
       (call : Call) → w .mail k .body ≡ Body.Call call → a ≡ w .mail k .destination → p ≡ w .passage
       → v ≡ countReceived (calledVisit call (w .visit a)) → c < calledVisit call (w .visit a) .quiesce
-      → w .clock a < c → m ≡ noMessage → Move w a k p v c m
+      → w .clock a < c → m ≡ noMessage → Move step w a k p v c m
   -- a phase 1 message is delivered, away from home, and answered
   Replies :
       (n : ℕ) (asked : Asked) → w .mail k .body ≡ Body.PhaseOne n asked → p ≡ w .passage
       → w .visit a .there ≡ true → w .visit a .round < n → v ≡ askedVisit asked n c (w .visit a)
       → w .clock a < c → carriesCommit (m .body) ≡ false
       → (isAnswer (m .body) ≡ true → (m .source ≡ a) × (m .destination ≡ w .passage .home) × (m .stamp ≡ c))
-      → Move w a k p v c m
+      → Move step w a k p v c m
   -- a phase 2 message is delivered, away from home
   Hears :
       (n : ℕ) (told : Told) → w .mail k .body ≡ Body.PhaseTwo n told → p ≡ w .passage → w .visit a .there ≡ true
-      → v ≡ toldVisit told (w .visit a) → w .clock a < c → m ≡ noMessage → Move w a k p v c m
+      → v ≡ toldVisit told (w .visit a) → w .clock a < c → m ≡ noMessage → Move step w a k p v c m
   -- an answer of the open round is delivered
   Collects :
       (n received q : ℕ) → w .mail k .body ≡ Body.Answer n received q → n ≡ w .passage .round .number
       → a ≡ w .mail k .destination
       → p ≡ withRound (w .passage) (withAnswer (w .passage .round) (w .mail k .source) (sentFigures (w .mail k) received q))
-      → v ≡ w .visit a → w .clock a < c → w .mail k .stamp < c → m ≡ noMessage → Move w a k p v c m
+      → v ≡ w .visit a → w .clock a < c → w .mail k .stamp < c → m ≡ noMessage → Move step w a k p v c m
 
 -- ---- one slot of a sweep or of a crash; no message is stored
 

@@ -8,7 +8,7 @@ use Rattle.rules.specs.LoopsLaws.{either, cond-keeps}
 use Rattle.rules.specs.Tables.{noVisit}
 use Rattle.rules.specs.Parts.{isFree, whereThere, quieted, askedVisit, toldVisit, askedOf}
 use Rattle.rules.specs.Rounds.{roundTold}
-use Rattle.runs.specs.Types.{Kind, Status, Passage, Visit, Asked, Told, Message}
+use Rattle.runs.specs.Types.{Kind, Status, Passage, Visit, Asked, Told, Message, Step}
 use Rattle.runs.specs.Walk.Plain.{when-true, when-false}
 use Rattle.runs.specs.Walk.Put.{put, put-same, put-other, put-all, same-or-other}
 use Rattle.runs.specs.Times.View.{View, Past, Ledger, noLedger, ledgerNoted, notedPast, relast, firstSeen}
@@ -61,16 +61,16 @@ where-gone v x e y = false≢true (sym e ∙ ap (λ (z : Visit). z .there) (sym 
 
 -- a store that makes a visit makes it at a site that has seen none
 pub made-at-unseen :
-    {w : View} {a k c : ℕ} {p : Passage} {v : Visit} {m : Message} (l : Ledger) → Holds w l → Move w a k p v c m
+    {step : Step} {w : View} {a k c : ℕ} {p : Passage} {v : Visit} {m : Message} (l : Ledger) → Holds w l → Move step w a k p v c m
     → w .visit a .there ≡ false → v .there ≡ true → l a .seen ≡ false
 made-at-unseen l h (Move.Rests p v i m) e y = absurd (false≢true (sym e ∙ sym (v .there) ∙ y))
 made-at-unseen l h (Move.Tells p v i q two n f) e y = absurd (false≢true (sym e ∙ ap (λ (x : Visit). x .there) (sym v) ∙ y))
 made-at-unseen {a = a} l h (Move.Begins free s r i m) e y = h .free free .ledger a
-made-at-unseen l h (Move.Retires s r v i) e y = absurd (false≢true (sym e ∙ ap (λ (x : Visit). x .there) (sym v) ∙ y))
+made-at-unseen l h (Move.Retires g s r v i) e y = absurd (false≢true (sym e ∙ ap (λ (x : Visit). x .there) (sym v) ∙ y))
 made-at-unseen l h (Move.Opens kind from q there p v i m) e y = absurd (false≢true (sym e ∙ there))
-made-at-unseen {w} {a} l h (Move.Closes q one closed p v i m) e y = absurd (where-gone (w .visit a) _ e (ap (λ (x : Visit). x .there) (sym v) ∙ y))
-made-at-unseen {w} {a} l h (Move.Aborts runs p v i m) e y = absurd (where-gone (w .visit a) _ e (ap (λ (x : Visit). x .there) (sym v) ∙ y))
-made-at-unseen {w} {a} {k} {c} l h (Move.Receives call body at p v early i m) e y =
+made-at-unseen {w = w} {a = a} l h (Move.Closes q one closed p v i m) e y = absurd (where-gone (w .visit a) _ e (ap (λ (x : Visit). x .there) (sym v) ∙ y))
+made-at-unseen {w = w} {a = a} l h (Move.Aborts runs p v i m) e y = absurd (where-gone (w .visit a) _ e (ap (λ (x : Visit). x .there) (sym v) ∙ y))
+made-at-unseen {w = w} {a = a} {k = k} {c = c} l h (Move.Receives call body at p v early i m) e y =
     let q : c < call .quiesce = rw e at early in never-twice w l h k a call body at e (omega arith)
 made-at-unseen l h (Move.Replies n asked body p there round v i q f) e y = absurd (false≢true (sym e ∙ there))
 made-at-unseen l h (Move.Hears n told body p there v i m) e y = absurd (false≢true (sym e ∙ there))
@@ -80,7 +80,7 @@ made-at-unseen l h (Move.Collects n r q body number at p v i stamp m) e y = absu
 pub turned-unmade : {w : View} {a : ℕ} {p : Passage} {v : Visit} → Turn w a p v → w .visit a .there ≡ false → v .there ≡ true → ⊥
 turned-unmade (Turn.Stays p v) e y = false≢true (sym e ∙ ap (λ (x : Visit). x .there) (sym v) ∙ y)
 turned-unmade (Turn.Sweeps aborts b p there prepared v) e y = false≢true (sym e ∙ there)
-turned-unmade {w} {a} (Turn.Crashes aborts hits b p f v) e y = where-gone (w .visit a) _ e (ap (λ (x : Visit). x .there) (sym v) ∙ y)
+turned-unmade {w = w} {a = a} (Turn.Crashes aborts hits b p f v) e y = where-gone (w .visit a) _ e (ap (λ (x : Visit). x .there) (sym v) ∙ y)
 
 -- ---- a quiesce time comes down to the moved clock at most
 
@@ -96,20 +96,20 @@ later-told Told.Prepare x v i e = absurd (false≢true e)
 
 -- what is before the quiesce time of a visit that was there, and before the clock that the step moved, is before its quiesce time still
 pub quiesce-after :
-    {w : View} {a k c : ℕ} {p : Passage} {v : Visit} {m : Message} (l : Ledger) → Holds w l → Move w a k p v c m
+    {step : Step} {w : View} {a k c : ℕ} {p : Passage} {v : Visit} {m : Message} (l : Ledger) → Holds w l → Move step w a k p v c m
     → (x : ℕ) → w .visit a .there ≡ true → v .there ≡ true → x < w .visit a .quiesce → x ≤ w .clock a → x < v .quiesce
 quiesce-after l h (Move.Rests p v i m) x e y j n = rw (v .quiesce) j
 quiesce-after l h (Move.Tells p v i q two b f) x e y j n = rw v j
 quiesce-after {a = a} l h (Move.Begins free s r i m) x e y j n = absurd (false≢true (sym (h .free free .visits a) ∙ e))
-quiesce-after l h (Move.Retires s r v i) x e y j n = rw v j
-quiesce-after {w} {a} {c = c} l h (Move.Opens kind from q there p v i m) x e y j n = rw v (later-asked (askedOf kind) _ c x (w .visit a) j (omega arith))
-quiesce-after {w} {a} {v = v} l h (Move.Closes q one closed p u i m) x e y j n =
+quiesce-after l h (Move.Retires g s r v i) x e y j n = rw v j
+quiesce-after {w = w} {a = a} {c = c} l h (Move.Opens kind from q there p v i m) x e y j n = rw v (later-asked (askedOf kind) _ c x (w .visit a) j (omega arith))
+quiesce-after {w = w} {a = a} {v = v} l h (Move.Closes q one closed p u i m) x e y j n =
     let t : v ≡ toldVisit (roundTold (w .passage .round)) (w .visit a) = u ∙ where-is (w .visit a) _ e in
     rw t (later-told (roundTold (w .passage .round)) x (w .visit a) j (ap (λ (z : Visit). z .there) (sym t) ∙ y))
-quiesce-after {w} {a} l h (Move.Aborts runs p v i m) x e y j n = rw (v, e) (omega arith)
-quiesce-after {w} {a} l h (Move.Receives call body at p v early i m) x e y j n = rw (v, e) j
-quiesce-after {w} {a} {c = c} l h (Move.Replies b asked body p there round v i q f) x e y j n = rw v (later-asked asked b c x (w .visit a) j (omega arith))
-quiesce-after {w} {a} l h (Move.Hears b told body p there v i m) x e y j n =
+quiesce-after {w = w} {a = a} l h (Move.Aborts runs p v i m) x e y j n = rw (v, e) (omega arith)
+quiesce-after {w = w} {a = a} l h (Move.Receives call body at p v early i m) x e y j n = rw (v, e) j
+quiesce-after {w = w} {a = a} {c = c} l h (Move.Replies b asked body p there round v i q f) x e y j n = rw v (later-asked asked b c x (w .visit a) j (omega arith))
+quiesce-after {w = w} {a = a} l h (Move.Hears b told body p there v i m) x e y j n =
     rw v (later-told told x (w .visit a) j (ap (λ (z : Visit). z .there) (sym v) ∙ y))
 quiesce-after l h (Move.Collects b r q body number at p v i stamp m) x e y j n = rw v j
 
@@ -119,7 +119,7 @@ pub quiesce-turned :
     → (x : ℕ) → w .visit a .there ≡ true → v .there ≡ true → x < w .visit a .quiesce → x < w .clock a → x < v .quiesce
 quiesce-turned (Turn.Stays p v) x e y j n = rw v j
 quiesce-turned (Turn.Sweeps aborts b p there prepared v) x e y j n = absurd (false≢true (ap (λ (z : Visit). z .there) (sym v) ∙ y))
-quiesce-turned {w} {a} (Turn.Crashes aborts hits b p f v) x e y j n =
+quiesce-turned {w = w} {a = a} (Turn.Crashes aborts hits b p f v) x e y j n =
     rw
     (v, where-is (w .visit a) (cond hits (quieted (w .visit a) (w .clock a) false true) (w .visit a)) e)
     (cond-keeps (λ (z : Visit). x < z .quiesce) hits (quieted (w .visit a) (w .clock a) false true) (w .visit a) (omega arith) j)

@@ -34,14 +34,14 @@ use Rattle.runs.specs.Fits.Deliver.{deliverAt, letter-seen, letter-body,
 use Rattle.runs.specs.Moves.Definitions.{Alike, isAnswer, Plain, OpenedFrom, Move, Turn}
 
 -- what a store at these places does to its own slot
-abbrev pub MoveAt : Tables → Places → Seen → Type 0
-MoveAt t at left = Move (viewOf t (at .slot)) (at .site) (at .message) (left .passage) (left .visit) (left .site .clock) (mailOf (at .slot) (left .message))
+abbrev pub MoveAt : Step → Tables → Places → Seen → Type 0
+MoveAt step t at left = Move step (viewOf t (at .slot)) (at .site) (at .message) (left .passage) (left .visit) (left .site .clock) (mailOf (at .slot) (left .message))
 
 -- an accepted decision leaves what it decided
 move-settled :
-    (t : Tables) (at : Places) (d : Decision) → isAccepted (d .answer) ≡ true → MoveAt t at (d .left)
-    → MoveAt t at (settleOf d (seenOf t at) .left)
-move-settled t at d e x = subst (MoveAt t at) (sym (settle-accepted d (seenOf t at) e)) x
+    {step : Step} (t : Tables) (at : Places) (d : Decision) → isAccepted (d .answer) ≡ true → MoveAt step t at (d .left)
+    → MoveAt step t at (settleOf d (seenOf t at) .left)
+move-settled {step} t at d e x = subst (MoveAt step t at) (sym (settle-accepted d (seenOf t at) e)) x
 
 -- ---- what the checks say
 
@@ -86,14 +86,14 @@ module _ (t : Tables) (l : Ledger) where
   home-here p h = let i : passageAt t p .home < 8 = h .passage .home in omega arith
 
   -- only the site's clock moves
-  site-move : (at : Places) (left : Seen) → left .passage ≡ passageAt t (at .slot) → left .visit ≡ visitAt t (at .site) (at .slot) → left .message ≡ messageAt t (at .message)
-      → siteAt t (at .site) .clock ≤ left .site .clock → MoveAt t at left
+  site-move : {step : Step} (at : Places) (left : Seen) → left .passage ≡ passageAt t (at .slot) → left .visit ≡ visitAt t (at .site) (at .slot) → left .message ≡ messageAt t (at .message)
+      → siteAt t (at .site) .clock ≤ left .site .clock → MoveAt step t at left
   site-move at left p v m i =
       Move.Rests p (subst (Alike (visitAt t (at .site) (at .slot))) (sym v) (alike-same _)) i (inl (ap (mailOf (at .slot)) m))
 
   -- a message that is no word goes out, or one is lost
-  plain-move : (at : Places) (left : Seen) → left .passage ≡ passageAt t (at .slot) → Alike (visitAt t (at .site) (at .slot)) (left .visit)
-      → siteAt t (at .site) .clock ≤ left .site .clock → Plain (left .message) → MoveAt t at left
+  plain-move : {step : Step} (at : Places) (left : Seen) → left .passage ≡ passageAt t (at .slot) → Alike (visitAt t (at .site) (at .slot)) (left .visit)
+      → siteAt t (at .site) .clock ≤ left .site .clock → Plain (left .message) → MoveAt step t at left
   plain-move at left p v i m = Move.Rests p v i (inr (seen-plain (at .slot) (left .message) m))
 
   -- what a round of this kind tells is a commit where the kind is prepare
@@ -104,17 +104,17 @@ module _ (t : Tables) (l : Ledger) where
   told-prepare Kind.Prepare m e = e
 
   open-move :
-      (h : ℕ) (kind : Kind) (bad wrong : Bool) → Holds (viewOf t (h % 16)) l
+      {step : Step} (h : ℕ) (kind : Kind) (bad wrong : Bool) → Holds (viewOf t (h % 16)) l
       → Fine (openChecks h bad wrong (seenOf t (placesOf t (looksHome MailAt.Nowhere h))))
       → OpenedFrom kind (passageAt t (h % 16) .status)
-      → MoveAt t (placesOf t (looksHome MailAt.Nowhere h)) (openDone h kind bad wrong (seenOf t (placesOf t (looksHome MailAt.Nowhere h))) .left)
+      → MoveAt step t (placesOf t (looksHome MailAt.Nowhere h)) (openDone h kind bad wrong (seenOf t (placesOf t (looksHome MailAt.Nowhere h))) .left)
   unfolding placesOf
   open-move h kind bad wrong k fine from =
       Move.Opens kind from (home-here (h % 16) k) (not-false _ (fine .there)) refl refl (omega arith) refl
 
   tell-move :
       (h site place : ℕ) → Holds (viewOf t (placesAt t (Step.Tell h site) .slot)) l → Fine (tellChecks h site (seenAt t (Step.Tell h site)))
-      → MoveAt t (placesAt t (Step.Tell h site)) (tellDone h site place (seenAt t (Step.Tell h site)) .left)
+      → MoveAt (Step.Tell h site) t (placesAt t (Step.Tell h site)) (tellDone h site place (seenAt t (Step.Tell h site)) .left)
   unfolding placesOf
   tell-move h site place k fine =
       Move.Tells
@@ -148,7 +148,7 @@ module _ (t : Tables) (at : Places) (m : ℕ) (l : Ledger) (own : slotOf (messag
   abbrev mine : (b : Body) → letter .body ≡ b → isEmpty b ≡ false → viewOf t (at .slot) .mail (at .message) .body ≡ b
   mine b = letter-body t at m own here kin b
 
-  call-move : (c : Call) → letter .body ≡ Body.Call c → Fine (callChecks m c seen) → MoveAt t at (callDone m c seen .left)
+  call-move : (c : Call) → letter .body ≡ Body.Call c → Fine (callChecks m c seen) → MoveAt (Step.Deliver m) t at (callDone m c seen .left)
   call-move c body fine =
       Move.Receives
       c
@@ -167,7 +167,7 @@ module _ (t : Tables) (at : Places) (m : ℕ) (l : Ledger) (own : slotOf (messag
   phase-one-move :
       (n : ℕ) (asked : Asked) → letter .body ≡ Body.PhaseOne n asked
       → Fine (roundChecks m (asksLife asked) (leb n (seen .visit .round)) (mailClock seen) seen)
-      → MoveAt t at (phaseOneDone m n asked seen .left)
+      → MoveAt (Step.Deliver m) t at (phaseOneDone m n asked seen .left)
   phase-one-move n asked body fine =
       let away : atHome seen ≡ false = not-home (Body.PhaseOne n asked) body refl (h .mail (at .message) .one n asked (mine (Body.PhaseOne n asked) body refl) .away) in
       Move.Replies
@@ -194,7 +194,7 @@ module _ (t : Tables) (at : Places) (m : ℕ) (l : Ledger) (own : slotOf (messag
   phase-two-move :
       (n : ℕ) (told : Told) → letter .body ≡ Body.PhaseTwo n told
       → Fine (roundChecks m (tellsLife told) (not (eqb n (seen .visit .round))) (mailClock seen) seen)
-      → MoveAt t at (phaseTwoDone m n told seen .left)
+      → MoveAt (Step.Deliver m) t at (phaseTwoDone m n told seen .left)
   phase-two-move n told body fine =
       let away : atHome seen ≡ false = not-home (Body.PhaseTwo n told) body refl (h .mail (at .message) .two n told (mine (Body.PhaseTwo n told) body refl) .0) in
       Move.Hears
@@ -209,7 +209,7 @@ module _ (t : Tables) (at : Places) (m : ℕ) (l : Ledger) (own : slotOf (messag
 
   answer-move :
       (n received q : ℕ) → letter .body ≡ Body.Answer n received q → Fine (answerChecks m n seen)
-      → MoveAt t at (answerDone m n received q seen .left)
+      → MoveAt (Step.Deliver m) t at (answerDone m n received q seen .left)
   answer-move n received q body fine =
       let same : viewOf t (at .slot) .mail (at .message) ≡ letter = letter-seen t at m own here kin (Body.Answer n received q) body refl in
       Move.Collects
@@ -231,7 +231,7 @@ module _ (t : Tables) (range : inRange t ≡ true) (l : Ledger) where
   body-move :
       (m : ℕ) (b : Body) → seenOf t (deliverAt t m) .message .body ≡ b → Holds (viewOf t (deliverAt t m .slot)) l
       → isAccepted (deliverBodyOf b m (seenOf t (deliverAt t m)) .answer) ≡ true
-      → MoveAt t (deliverAt t m) (deliverBodyOf b m (seenOf t (deliverAt t m)) .left)
+      → MoveAt (Step.Deliver m) t (deliverAt t m) (deliverBodyOf b m (seenOf t (deliverAt t m)) .left)
   unfolding deliverBodyOf emptyOf deliverCallOf deliverPhaseOneOf deliverPhaseTwoOf deliverAnswerOf
   body-move m Body.Empty e h y = absurd (true≢false (sym (ap isEmpty e) ∙ accepted-fine _ 0 y .found))
   body-move m (Body.Call c) e h y =
@@ -250,7 +250,7 @@ module _ (t : Tables) (range : inRange t ≡ true) (l : Ledger) where
   pub move-of :
       (step : Step) → Holds (viewOf t (placesAt t step .slot)) l
       → isAccepted (decideOf step (foundOf t (placesAt t step)) (seenAt t step) .answer) ≡ true
-      → MoveAt t (placesAt t step) (decideOf step (foundOf t (placesAt t step)) (seenAt t step) .left)
+      → MoveAt step t (placesAt t step) (decideOf step (foundOf t (placesAt t step)) (seenAt t step) .left)
   unfolding placesOf decideOf tickOf sweepOf crashOf recoverOf beginOf abortOf retireOf refreshOf terminateOf prepareOf openOf askOf closeOf tellOf invokeOf dropOf
   move-of (Step.Tick site n) h e =
       move-settled t (placesAt t (Step.Tick site n)) (tickDone site n (seenAt t (Step.Tick site n))) e (site-move t l (placesAt t (Step.Tick site n)) (tickDone site n (seenAt t (Step.Tick site n)) .left) refl refl refl (omega arith))
@@ -295,7 +295,7 @@ module _ (t : Tables) (range : inRange t ≡ true) (l : Ledger) where
   move-of (Step.Recover site) k e =
       move-settled t (placesAt t (Step.Recover site)) (recoverDone site (seenAt t (Step.Recover site))) e (site-move t l (placesAt t (Step.Recover site)) (recoverDone site (seenAt t (Step.Recover site)) .left) refl refl refl (omega arith))
   move-of (Step.Retire h) k e =
-      move-settled t (placesAt t (Step.Retire h)) (retireDone h _ (seenAt t (Step.Retire h))) e (Move.Retires refl refl refl (omega arith))
+      move-settled t (placesAt t (Step.Retire h)) (retireDone h _ (seenAt t (Step.Retire h))) e (Move.Retires refl refl refl refl (omega arith))
 
 -- ---- turns
 

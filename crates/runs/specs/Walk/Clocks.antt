@@ -112,7 +112,7 @@ turned-site Trip.Nowhere slot seen = refl
 turned-site (Trip.Sweep site) slot seen = ⊎-elim (λ e. rw e) (λ e. rw e) (either (isSwept seen))
 turned-site (Trip.Crash site) slot seen = refl
 
-turn-not-back :
+pub turn-not-back :
     (trip : Trip) (slot : ℕ) (o : Outcome) → slot < 16 → Sound (o .tables) → (s : ℕ)
     → siteAt (o .tables) s .clock ≤ siteAt (turnOf trip slot o .tables) s .clock
 turn-not-back trip slot o l z s =
@@ -164,7 +164,7 @@ clock-run t (x ∷ xs) z s =
 
 -- ---- an accepted step that acts at a site adds at least 1 there
 
-head-adds :
+pub head-adds :
     (t : Tables) (step : Step) → Sound t → isAccepted (headOf t step .answer) ≡ true → actsAtSite step ≡ true
     → siteAt t (placesOf t (lookOf step) .site) .clock + 1 ≤ siteAt (headOf t step .tables) (placesOf t (lookOf step) .site) .clock
 unfolding headOf
