@@ -3,3 +3,4 @@ pub mod Vow
 pub mod VowKept
 pub mod Pledged
 pub mod Since
+pub mod Over

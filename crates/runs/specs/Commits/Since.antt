@@ -68,10 +68,10 @@ used-moved (Move.Replies n asked body e was below x i silent reply) g u = rw e u
 used-moved (Move.Hears n told body e was x i y) g u = rw e u
 used-moved (Move.Collects n r q body number at e x i stamp y) g u = rw e u
 
-used-turned : {w : View} {a : ℕ} {p : Passage} {v : Visit} → Turn w a p v → isFree (w .passage .status) ≡ false → isFree (p .status) ≡ false
-used-turned (Turn.Stays e x) u = rw e u
-used-turned {w = w} (Turn.Sweeps aborts active e was unprepared x) u = rw e (used-aborted aborts (w .passage) u)
-used-turned {w = w} (Turn.Crashes aborts hits runs e unhit x) u = rw e (used-aborted aborts (w .passage) u)
+used-turned : {w : View} {a : ℕ} {p : Passage} {v : Visit} {trip : Trip} → Turn w a p v trip → isFree (w .passage .status) ≡ false → isFree (p .status) ≡ false
+used-turned (Turn.Stays trip e x) u = rw e u
+used-turned {w = w} (Turn.Sweeps site aborts active e was unprepared x) u = rw e (used-aborted aborts (w .passage) u)
+used-turned {w = w} (Turn.Crashes site aborts hits runs e unhit x) u = rw e (used-aborted aborts (w .passage) u)
 
 -- a step that does not retire its own slot is no retire
 own-retire : (t : Tables) (step : Step) → Generation step → retires (placesAt t step .slot) step ≡ false → isStep 16 step ≡ false
@@ -116,7 +116,7 @@ pub record Carries (P : View → Ledger → Type 0) (Way : Trip → View → Typ
       → Move step w a k p v c m → isFree (p .status) ≡ false → P (leftView w a k p v c m) (ledgerNoted l a source v)
   pub turned :
       {w : View} {a : ℕ} {p : Passage} {v : Visit} (trip : Trip) (l : Ledger) (source k : ℕ) → a ≡ tripSite trip % 8
-      → Holds w l → Vow w l → P w l → Way trip w → Turn w a p v → P (leftView w a k p v (w .clock a) (w .mail k)) (ledgerNoted l a source v)
+      → Holds w l → Vow w l → P w l → Way trip w → Turn w a p v trip → P (leftView w a k p v (w .clock a) (w .mail k)) (ledgerNoted l a source v)
   pub used : {w : View} {l : Ledger} → Holds w l → P w l → isFree (w .passage .status) ≡ false
   pub sets-out :
       (t : Tables) (step : Step) (p : ℕ) (l : Ledger) → Sound t → isAccepted (headOf t step .answer) ≡ true → P (viewOf t p) l

@@ -4,6 +4,7 @@ use native.Mathlib.Omega.{arith}
 use mathlib.Core.Path.{_≡_, refl, sym, ap, _∙_, subst}
 use mathlib.Core.Logic.{_≢_, ⊎-elim, _⊎_, inl, inr}
 use mathlib.Core.Bool.{Bool, true, false, cond, not, true≢false, false≢true}
+use Rattle.rules.specs.declared.looking.Trip.{Trip}
 use Rattle.rules.specs.LoopsLaws.{either, cond-keeps}
 use Rattle.rules.specs.Tables.{noVisit, noRound, noMessage}
 use Rattle.rules.specs.Parts.{isFree, isActive, isRunning, isAborted, isPhaseOne, isPhaseTwo, isClosed, hasAnswered, abortedPassage, quieted, newVisit, whereThere, askedOf, askedVisit, toldVisit, toldOf, toldStatus, largestQuiesce}
@@ -24,10 +25,10 @@ use Rattle.runs.specs.Commits.Vow.{RoundFor, RoundFits, Vow}
 
 -- ---- statuses
 
-one-not-two : Phase.One ≡ Phase.Two → ⊥
+pub one-not-two : Phase.One ≡ Phase.Two → ⊥
 one-not-two e = true≢false (ap isPhaseOne e)
 
-none-not-one : Phase.None ≡ Phase.One → ⊥
+pub none-not-one : Phase.None ≡ Phase.One → ⊥
 none-not-one e = false≢true (ap isPhaseOne e)
 
 none-not-two : Phase.None ≡ Phase.Two → ⊥
@@ -40,6 +41,13 @@ committed-tells p f e = subst (λ (s : Status). RoundFor s (p .round .kind) (p .
 -- a running one is not committed
 pub running-not-committed : (s : Status) → isRunning s ≡ true → s ≡ Status.Committed → ⊥
 running-not-committed s r e = false≢true (sym (ap isRunning e) ∙ r)
+
+pub active-runs : (s : Status) → isActive s ≡ true → isRunning s ≡ true
+active-runs Status.Free y = absurd (false≢true y)
+active-runs Status.Active y = refl
+active-runs Status.Committing y = refl
+active-runs Status.Aborted y = absurd (false≢true y)
+active-runs Status.Committed y = absurd (false≢true y)
 
 -- a passage that tells a commit is committed
 pub telling-commits : (p : Passage) → RoundFits p → p .status ≢ Status.Free → p .round .kind ≡ Kind.Prepare → p .round .phase ≡ Phase.Two → p .status ≡ Status.Committed
@@ -392,22 +400,15 @@ module _ (w : View) (l : Ledger) (a k c source : ℕ) (v : Visit) (m : Message) 
       (sent-empty p y)
 
   -- every turn; the message and the clock stay
-  pub vow-turned : (p : Passage) → m ≡ w .mail k → Turn w a p v → After p
-  vow-turned p f (Turn.Stays e x) = vow-stays p (as-it-was p e) (here-same x) (sent-same p (as-it-was p e) f)
-  vow-turned p f (Turn.Sweeps true active e was unprepared x) = subst After (sym e) (vow-aborted f (active-runs (w .passage .status) (active refl)))
-    where
-      active-runs : (s : Status) → isActive s ≡ true → isRunning s ≡ true
-      active-runs Status.Free y = absurd (false≢true y)
-      active-runs Status.Active y = refl
-      active-runs Status.Committing y = refl
-      active-runs Status.Aborted y = absurd (false≢true y)
-      active-runs Status.Committed y = absurd (false≢true y)
-  vow-turned p f (Turn.Sweeps false active e was unprepared x) =
+  pub vow-turned : {trip : Trip} (p : Passage) → m ≡ w .mail k → Turn w a p v trip → After p
+  vow-turned p f (Turn.Stays trip e x) = vow-stays p (as-it-was p e) (here-same x) (sent-same p (as-it-was p e) f)
+  vow-turned p f (Turn.Sweeps site true active e was unprepared x) = subst After (sym e) (vow-aborted f (active-runs (w .passage .status) (active refl)))
+  vow-turned p f (Turn.Sweeps site false active e was unprepared x) =
       vow-stays p (as-it-was p e)
       (here-gone (ap (λ (z : Visit). z .there) x) (λ kind one y. true≢false (sym y ∙ unprepared)))
       (sent-same p (as-it-was p e) f)
-  vow-turned p f (Turn.Crashes true hits runs e unhit x) = subst After (sym e) (vow-aborted f (runs refl))
-  vow-turned p f (Turn.Crashes false true runs e unhit x) =
+  vow-turned p f (Turn.Crashes site true hits runs e unhit x) = subst After (sym e) (vow-aborted f (runs refl))
+  vow-turned p f (Turn.Crashes site false true runs e unhit x) =
       vow-stays p (as-it-was p e)
       (record {
         asked =
@@ -425,7 +426,7 @@ module _ (w : View) (l : Ledger) (a k c source : ℕ) (v : Visit) (m : Message) 
 
       struck-there : v .there ≡ true → w .visit a .there ≡ true
       struck-there now = ⊎-elim (λ y. y) (λ y. absurd (false≢true (sym y ∙ ap (λ (z : Visit). z .there) (sym (x ∙ where-not (w .visit a) _ y)) ∙ now))) (either (w .visit a .there))
-  vow-turned p f (Turn.Crashes false false runs e unhit x) =
+  vow-turned p f (Turn.Crashes site false false runs e unhit x) =
       vow-stays p (as-it-was p e)
       (here-same (x ∙ cond-keeps (λ (z : Visit). z ≡ w .visit a) (w .visit a .there) (w .visit a) (w .visit a) refl refl))
       (sent-same p (as-it-was p e) f)

@@ -6,6 +6,7 @@ use mathlib.Core.Path.{_≡_}
 use mathlib.Core.Logic.{_⊎_}
 use mathlib.Core.Bool.{Bool, true, false, cond}
 use lib.Dec.{eqb}
+use Rattle.rules.specs.declared.looking.Trip.{Trip}
 use Rattle.rules.specs.Tables.{noVisit, noRound, noMessage}
 use Rattle.rules.specs.Parts.{isActive, isRunning, isClosed, abortedPassage, withRound, withAnswer, whereThere, quieted, countReceived, askedOf, askedVisit, toldVisit}
 use Rattle.rules.specs.Rounds.{roundTold, openedPassage, closedPassage}
@@ -98,16 +99,16 @@ pub data Move (step : Step) (w : View) (a k : ℕ) (p : Passage) (v : Visit) (c 
 
 -- ---- one slot of a sweep or of a crash; no message is stored
 
-pub data Turn (w : View) (a : ℕ) (p : Passage) (v : Visit) : Type 0 where
-  Stays : p ≡ w .passage → v ≡ w .visit a → Turn w a p v
+pub data Turn (w : View) (a : ℕ) (p : Passage) (v : Visit) : Trip → Type 0 where
+  Stays : (trip : Trip) → p ≡ w .passage → v ≡ w .visit a → Turn w a p v trip
   Sweeps :
-      (aborts : Bool) → (aborts ≡ true → isActive (w .passage .status) ≡ true)
+      (site : ℕ) (aborts : Bool) → (aborts ≡ true → isActive (w .passage .status) ≡ true)
       → p ≡ cond aborts (abortedPassage (w .passage)) (w .passage)
-      → w .visit a .there ≡ true → w .visit a .prepared ≡ false → v ≡ noVisit → Turn w a p v
+      → w .visit a .there ≡ true → w .visit a .prepared ≡ false → v ≡ noVisit → Turn w a p v (Trip.Sweep site)
   -- a prepared visit is hit only where its passage loses its home
   Crashes :
-      (aborts hits : Bool) → (aborts ≡ true → isRunning (w .passage .status) ≡ true)
+      (site : ℕ) (aborts hits : Bool) → (aborts ≡ true → isRunning (w .passage .status) ≡ true)
       → p ≡ cond aborts (abortedPassage (w .passage)) (w .passage)
       → (aborts ≡ false → hits ≡ true → w .visit a .prepared ≡ false)
       → v ≡ whereThere (w .visit a) (cond hits (quieted (w .visit a) (w .clock a) false true) (w .visit a))
-      → Turn w a p v
+      → Turn w a p v (Trip.Crash site)

@@ -4,6 +4,7 @@ use native.Mathlib.Omega.{arith}
 use mathlib.Core.Path.{_≡_, refl, sym, ap, _∙_, subst}
 use mathlib.Core.Logic.{_≢_, ⊎-elim, _⊎_, inl, inr}
 use mathlib.Core.Bool.{Bool, true, false, cond, true≢false, false≢true}
+use Rattle.rules.specs.declared.looking.Trip.{Trip}
 use Rattle.rules.specs.LoopsLaws.{either, cond-keeps}
 use Rattle.rules.specs.Tables.{noVisit}
 use Rattle.rules.specs.Parts.{isFree, whereThere, quieted, askedVisit, toldVisit, askedOf}
@@ -77,10 +78,10 @@ made-at-unseen l h (Move.Hears n told body p there v i m) e y = absurd (false≢
 made-at-unseen l h (Move.Collects n r q body number at p v i stamp m) e y = absurd (false≢true (sym e ∙ ap (λ (x : Visit). x .there) (sym v) ∙ y))
 
 -- a turn makes none
-pub turned-unmade : {w : View} {a : ℕ} {p : Passage} {v : Visit} → Turn w a p v → w .visit a .there ≡ false → v .there ≡ true → ⊥
-turned-unmade (Turn.Stays p v) e y = false≢true (sym e ∙ ap (λ (x : Visit). x .there) (sym v) ∙ y)
-turned-unmade (Turn.Sweeps aborts b p there prepared v) e y = false≢true (sym e ∙ there)
-turned-unmade {w = w} {a = a} (Turn.Crashes aborts hits b p f v) e y = where-gone (w .visit a) _ e (ap (λ (x : Visit). x .there) (sym v) ∙ y)
+pub turned-unmade : {w : View} {a : ℕ} {p : Passage} {v : Visit} {trip : Trip} → Turn w a p v trip → w .visit a .there ≡ false → v .there ≡ true → ⊥
+turned-unmade (Turn.Stays trip p v) e y = false≢true (sym e ∙ ap (λ (x : Visit). x .there) (sym v) ∙ y)
+turned-unmade (Turn.Sweeps site aborts b p there prepared v) e y = false≢true (sym e ∙ there)
+turned-unmade {w = w} {a = a} (Turn.Crashes site aborts hits b p f v) e y = where-gone (w .visit a) _ e (ap (λ (x : Visit). x .there) (sym v) ∙ y)
 
 -- ---- a quiesce time comes down to the moved clock at most
 
@@ -114,12 +115,32 @@ quiesce-after {w = w} {a = a} l h (Move.Hears b told body p there v i m) x e y j
 quiesce-after l h (Move.Collects b r q body number at p v i stamp m) x e y j n = rw v j
 
 -- a turn of a crash brings it down to the clock as it stands
+abbrev pub isCrash : Trip → Bool
+isCrash Trip.Nowhere = false
+isCrash (Trip.Sweep site) = false
+isCrash (Trip.Crash site) = true
+
 pub quiesce-turned :
-    {w : View} {a : ℕ} {p : Passage} {v : Visit} → Turn w a p v
-    → (x : ℕ) → w .visit a .there ≡ true → v .there ≡ true → x < w .visit a .quiesce → x < w .clock a → x < v .quiesce
-quiesce-turned (Turn.Stays p v) x e y j n = rw v j
-quiesce-turned (Turn.Sweeps aborts b p there prepared v) x e y j n = absurd (false≢true (ap (λ (z : Visit). z .there) (sym v) ∙ y))
-quiesce-turned {w = w} {a = a} (Turn.Crashes aborts hits b p f v) x e y j n =
+    {w : View} {a : ℕ} {p : Passage} {v : Visit} {trip : Trip} → Turn w a p v trip
+    → (x : ℕ) → w .visit a .there ≡ true → v .there ≡ true → x < w .visit a .quiesce → (isCrash trip ≡ true → x < w .clock a) → x < v .quiesce
+quiesce-turned (Turn.Stays trip p v) x e y j n = rw v j
+quiesce-turned (Turn.Sweeps site aborts b p there prepared v) x e y j n = absurd (false≢true (ap (λ (z : Visit). z .there) (sym v) ∙ y))
+quiesce-turned {w = w} {a = a} (Turn.Crashes site aborts hits b p f v) x e y j n =
+    let i : x < w .clock a = n refl in
     rw
     (v, where-is (w .visit a) (cond hits (quieted (w .visit a) (w .clock a) false true) (w .visit a)) e)
     (cond-keeps (λ (z : Visit). x < z .quiesce) hits (quieted (w .visit a) (w .clock a) false true) (w .visit a) (omega arith) j)
+
+-- ---- a clock is not put back
+pub clock-after-move : {step : Step} {w : View} {a k c : ℕ} {p : Passage} {v : Visit} {m : Message} → Move step w a k p v c m → w .clock a ≤ c
+clock-after-move (Move.Rests e y i z) = i
+clock-after-move (Move.Tells e y i home two silent word) = i
+clock-after-move (Move.Begins free status round i z) = i
+clock-after-move (Move.Retires g status round y i) = i
+clock-after-move (Move.Opens kind from home was e y i z) = omega arith
+clock-after-move (Move.Closes home one closed e y i z) = omega arith
+clock-after-move (Move.Aborts runs e y i z) = omega arith
+clock-after-move (Move.Receives call body at e y early i z) = omega arith
+clock-after-move (Move.Replies b asked body e was below y i silent reply) = omega arith
+clock-after-move (Move.Hears b told body e was y i z) = omega arith
+clock-after-move (Move.Collects b r q body number at e y i stamp z) = omega arith

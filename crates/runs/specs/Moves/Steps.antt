@@ -299,12 +299,12 @@ module _ (t : Tables) (range : inRange t ≡ true) (l : Ledger) where
 
 -- ---- turns
 
-abbrev pub TurnAt : Tables → Places → Seen → Type 0
-TurnAt t at left = Turn (viewOf t (at .slot)) (at .site) (left .passage) (left .visit)
+abbrev pub TurnAt : Trip → Tables → Places → Seen → Type 0
+TurnAt trip t at left = Turn (viewOf t (at .slot)) (at .site) (left .passage) (left .visit) trip
 
-pub turn-of : (t : Tables) (trip : Trip) (slot : ℕ) → TurnAt t (tripPlaces trip slot) (turnSeen trip slot (seenOf t (tripPlaces trip slot)))
+pub turn-of : (t : Tables) (trip : Trip) (slot : ℕ) → TurnAt trip t (tripPlaces trip slot) (turnSeen trip slot (seenOf t (tripPlaces trip slot)))
 unfolding sweptSlot crashedSlot
-turn-of t Trip.Nowhere slot = Turn.Stays refl refl
+turn-of t Trip.Nowhere slot = Turn.Stays _ refl refl
 turn-of t (Trip.Sweep site) slot =
     ⊎-elim
     (λ e.
@@ -312,13 +312,14 @@ turn-of t (Trip.Sweep site) slot =
     rw
     e
     (Turn.Sweeps
+    site
     (isActive (passageAt t slot .status) && eqb (passageAt t slot .home) site)
     (λ b. and-left _ _ b)
     refl
     (and-left _ _ both)
     (not-true _ (and-right (visitAt t (site % 8) slot .there) _ both))
     refl))
-    (λ e. rw e (Turn.Stays refl refl))
+    (λ e. rw e (Turn.Stays _ refl refl))
     (either (isSwept (seenOf t (slotPlaces site slot))))
   where
     not-true : (b : Bool) → not b ≡ true → b ≡ false
@@ -326,6 +327,7 @@ turn-of t (Trip.Sweep site) slot =
     not-true false e = refl
 turn-of t (Trip.Crash site) slot =
     Turn.Crashes
+    site
     (losesHome site (passageAt t slot))
     (losesHome site (passageAt t slot) || not (visitAt t (site % 8) slot .prepared))
     (λ b. and-left _ _ b)

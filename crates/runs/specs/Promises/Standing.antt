@@ -139,7 +139,7 @@ way-after-turned (Trip.Crash site) n seen w =
 -- ---- steps, for the visit of one slot at one site
 
 -- what holds of the passage that a store leaves in its own slot, and of every other, holds of all
-passage-has :
+pub passage-has :
     (P : Passage → Type 0) (t : Tables) (at : Places) (left : Seen) → Sized t → Placed at → (p : ℕ)
     → (p ≡ at .slot → P (left .passage))
     → P (passageAt t p)
