@@ -8,3 +8,4 @@ pub mod Holders
 pub mod Orphans
 pub mod Promises
 pub mod Events
+pub mod Operations
