@@ -4,4 +4,5 @@ pub mod Single
 pub mod Operated
 pub mod Invoked
 pub mod Delivered
+pub mod HeldAway
 pub mod LetGo

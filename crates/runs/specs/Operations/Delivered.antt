@@ -1,7 +1,7 @@
 -- A delivery comes after its message was sent: it moves the destination's clock past the message's stamp. Assumes nothing.
 use Prim.Native.Nat.{ℕ, _+_, _%_, max}
 use native.Mathlib.Omega.{arith}
-use mathlib.Core.Path.{_≡_, refl, sym, ap, _∙_}
+use mathlib.Core.Path.{_≡_, refl, ap, _∙_}
 use mathlib.Core.Bool.{true, true≢false}
 use Rattle.rules.specs.Tables.{siteAt, messageAt}
 use Rattle.rules.specs.Answers.{isAccepted}
@@ -10,11 +10,11 @@ use Rattle.rules.specs.Machine.{lookOf, placesOf, decideOf, stepOf}
 use Rattle.rules.specs.StoredLaws.{site-after-stored}
 use Rattle.rules.specs.RangesLaws.{placed-places}
 use Rattle.rules.specs.Views.{settled-accepted}
-use Rattle.runs.specs.Types.{Site, Body, Message, Tables, Step, Seen}
+use Rattle.runs.specs.Types.{Site, Body, Tables, Step, Seen}
 use Rattle.runs.specs.Walk.Steps.{placesAt, seenAt}
 use Rattle.runs.specs.Walk.Sound.{Sound}
 use Rattle.runs.specs.Operations.Definitions.{AfterSent}
-use Rattle.runs.specs.Operations.Single.{decisionAt, decision-accepted, single-stored}
+use Rattle.runs.specs.Operations.Single.{decision-accepted, single-stored}
 
 -- an empty slot is refused, and any other message moves the clock to 1 + max(clock, stamp)
 clock-of-body :

@@ -1,23 +1,23 @@
 -- What an accepted invoke sends, of any sound tables: a call as the step names it, out of a visit that is still open after it. Assumes nothing.
-use Prim.Native.Nat.{ℕ, _/_, _%_, _≤_, _<_}
+use Prim.Native.Nat.{ℕ, _≤_}
 use native.Mathlib.Omega.{arith}
 use mathlib.Core.Path.{_≡_, refl, sym, ap, _∙_}
-use mathlib.Core.Bool.{Bool, true, not, _&&_, _||_}
-use lib.Dec.{eqb, leb, ltb}
+use mathlib.Core.Bool.{true, _||_}
+use lib.Dec.{leb, ltb}
 use borrow.Author.Tests.{leb-false, ltb-false}
 use Rattle.rules.specs.Limits.{widthMost, objectMost}
 use Rattle.rules.specs.LoopsLaws.{or-left, or-right, not-false}
-use Rattle.rules.specs.Tables.{siteAt, visitAt, messageAt, objectSite, slotOf}
+use Rattle.rules.specs.Tables.{siteAt, visitAt, messageAt, slotOf}
 use Rattle.rules.specs.Answers.{isAccepted, answerValue, firstOf}
 use Rattle.rules.specs.AnswersLaws.{Fine, accepted-fine, accepted-value, settle-accepted}
 use Rattle.rules.specs.FineLaws.{invoke-empty}
 use Rattle.rules.specs.Parts.{nextClock}
 use Rattle.rules.specs.Checks.{badSite, badHandle}
-use Rattle.rules.specs.Calls.{callSite, badCall, invokeChecks, callOf, invoked, invokeDone, invokeOf}
+use Rattle.rules.specs.Calls.{invokeChecks, callOf, invoked, invokeDone, invokeOf}
 use Rattle.rules.specs.Machine.{lookOf, placesOf, decideOf, stored, stepOf}
 use Rattle.rules.specs.RangesLaws.{placed-places}
 use Rattle.rules.specs.StoredLaws.{site-after-stored, visit-after-stored, message-after-stored}
-use Rattle.runs.specs.Types.{Site, Visit, Call, Message, Tables, Step, Answer, Places, Seen}
+use Rattle.runs.specs.Types.{Site, Visit, Message, Tables, Step, Places, Seen}
 use Rattle.runs.specs.Walk.Steps.{placesAt, seenAt}
 use Rattle.runs.specs.Walk.Sound.{Sound}
 use Rattle.runs.specs.Operations.Definitions.{StillOpen, SaysCall, SameTimes}

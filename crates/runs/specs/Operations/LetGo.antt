@@ -1,11 +1,11 @@
 -- By what a visit goes and an object is let go, of any sound tables: by home's word of a commit, or by a sweep once the release time has come.
--- The idea: of all steps only a sweep that is due and a commit's word leave a visit away; a sweep's clock moves first, and each turn looks at its own slot alone.
+-- The idea: of all steps only a sweep that is due and a commit's word take a visit; a sweep's clock moves first, and each turn looks at its own slot.
 -- Assumes nothing.
-use Prim.Native.Nat.{ℕ, suc, _%_, _≤_, _<_}
+use Prim.Native.Nat.{ℕ, _%_, _≤_, _<_}
 use native.Mathlib.Omega.{arith}
 use mathlib.Core.Path.{_≡_, refl, sym, ap, _∙_, subst, subst₂}
 use mathlib.Core.Logic.{⊎-elim, _⊎_, inl, inr}
-use mathlib.Core.Bool.{Bool, true, false, not, _&&_, _||_, true≢false}
+use mathlib.Core.Bool.{true, false, not, _&&_, _||_, true≢false}
 use mathlib.Core.List.{List}
 use borrow.Author.Tests.{leb-true, ltb-false}
 use Rattle.rules.specs.declared.looking.Trip.{Trip}
@@ -28,15 +28,15 @@ use Rattle.rules.specs.Views.{settled, Marks, Mail, mailDeed, Goes, deedOf}
 use Rattle.runs.specs.Types.{Site, Kind, Visit, Told, Body, Tables, Step, Places, Seen, Outcome, Found}
 use Rattle.runs.specs.Walk.Says.{isPrepare, tellsPrepare, carriesCommit}
 use Rattle.runs.specs.Walk.Put.{same-or-other}
-use Rattle.runs.specs.Walk.Steps.{placesAt, seenAt, head-accepted}
+use Rattle.runs.specs.Walk.Steps.{placesAt, seenAt}
 use Rattle.runs.specs.Walk.Clocks.{turned-site}
 use Rattle.runs.specs.Walk.Sound.{Sound, sound-accepted-has}
 use Rattle.runs.specs.Kept.Times.{asked-says}
-use Rattle.runs.specs.Holders.HeldStore.{Held}
 use Rattle.runs.specs.Promises.Definitions.{isWord}
 use Rattle.runs.specs.Promises.Promised.{word-here, stored-has}
 use Rattle.runs.specs.Promises.HeldFast.{let-go-with-visit}
 use Rattle.runs.specs.Operations.Definitions.{SweptAt}
+use Rattle.runs.specs.Operations.HeldAway.{held-away-after-step}
 use Rattle.runs.specs.Operations.Single.{decision-accepted, single-head}
 
 -- ---- a step's own store leaves a visit there, unless it is home's word to it
@@ -243,6 +243,10 @@ module _ (s p : ℕ) (slot : p < 16) where
             s ≡ at .site → p ≡ at .slot
             → (sweptSlot site n seen .visit ≡ visitAt t s p) ⊎ Due (stored (o .tables) at (sweptSlot site n seen))
         taken a b =
+            let site-left : siteAt (stored (o .tables) at (sweptSlot site n seen)) s ≡ seen .site =
+            ap (λ (u : Tables). siteAt u s) (sym (turn-stored (Trip.Sweep site) n o))
+            ∙ site-after-turn (Trip.Sweep site) n s o l y
+            ∙ ap (siteAt (o .tables)) a in
             let same : seen .visit ≡ visitAt t s p = subst₂ (λ (x y : ℕ). visitAt (o .tables) x y ≡ visitAt t s p) a b e in
             ⊎-elim
             (λ q.
@@ -259,7 +263,7 @@ module _ (s p : ℕ) (slot : p < 16) where
                   same
                   (subst
                   (λ (x : Site). seen .visit .release ≤ x .clock)
-                  (sym (ap (λ (u : Tables). siteAt u s) (sym (turn-stored (Trip.Sweep site) n o)) ∙ site-after-turn (Trip.Sweep site) n s o l y ∙ ap (siteAt (o .tables)) a))
+                  (sym site-left)
                   due);
             }))
             (λ q. inl (rw q same))
@@ -276,7 +280,8 @@ module _ (s p : ℕ) (slot : p < 16) where
         (λ (e : visitAt (stepOf t (Step.Sweep site) .tables) s p ≡ visitAt t s p).
         absurd (true≢false (sym there ∙ ap (λ (v : Visit). v .there) (sym e) ∙ gone)))
         (λ (d : Due (stepOf t (Step.Sweep site) .tables)).
-        let l : site ≤ 7 = ltb-false 7 site (accepted-fine (sweepChecks site (seenAt t (Step.Sweep site))) 0 (decision-accepted t (Step.Sweep site) a) .fields) in
+        let l : site ≤ 7 =
+        ltb-false 7 site (accepted-fine (sweepChecks site (seenAt t (Step.Sweep site))) 0 (decision-accepted t (Step.Sweep site) a) .fields) in
         let h : s ≡ site % 8 = d .here in
         let same : site ≡ s = omega arith in
         record {
@@ -315,8 +320,8 @@ module _ (s p : ℕ) (slot : p < 16) where
       (true≢false
       (sym (there-after-head t step z there f) ∙ ap (λ (u : Tables). visitAt u s p .there) (sym (single-head t step n a)) ∙ gone))
 
-  -- a visit that is there and is gone after a step went by an accepted word of home, the close of its commit round or the delivery there of a commit's phase 2,
-  -- or by an accepted sweep of its site, which may take it, at a clock that has reached its release time
+  -- a visit that is there and is gone after a step went by an accepted word of home: the close of its commit round, or the delivery there of a commit's phase 2;
+  -- or by an accepted sweep of its site, as one that a sweep may take, at a clock that has reached its release time
   pub visit-goes-by :
       (t : Tables) (step : Step) → Sound t → visitAt t s p .there ≡ true → visitAt (stepOf t step .tables) s p .there ≡ false
       → ((isAccepted (stepOf t step .answer) ≡ true) × (isWord t s p step ≡ true)) ⊎ SweptAt t step s p
@@ -329,3 +334,18 @@ module _ (s p : ℕ) (slot : p < 16) where
       by (inl a) (inl f) = inl (a, f)
       by (inl a) (inr f) = inr (gone-by-step t step z (deedOf step .goes) there a f gone)
       by (inr a) f = absurd (true≢false (sym there ∙ ap (λ (u : Tables). visitAt u s p .there) (sym (refused-leaves t step a)) ∙ gone))
+
+-- an object that a passage holds and does not hold after a step was let go by an accepted word of home to its visit at the object's station,
+-- or by an accepted sweep there, of a visit that a sweep may take, at a clock that has reached its release time
+pub let-go-by :
+    (t : Tables) (step : Step) (k p : ℕ) → p < 16 → Sound t → isHolding t p k ≡ true → isHolding (stepOf t step .tables) p k ≡ false
+    → ((isAccepted (stepOf t step .answer) ≡ true) × (isWord t (objectSite k) p step ≡ true)) ⊎ SweptAt t step (objectSite k) p
+let-go-by t step k p slot z held let-go =
+    ⊎-elim
+    (λ there.
+    ⊎-elim
+    (λ e. absurd (true≢false (sym e ∙ let-go)))
+    (λ gone. visit-goes-by (objectSite k) p slot t step z there gone)
+    (let-go-with-visit k p slot t step z held))
+    (λ away. absurd (true≢false (sym (held-away-after-step k p slot t step z held away) ∙ let-go)))
+    (either (visitAt t (objectSite k) p .there))

@@ -1,14 +1,13 @@
 -- What an operation answers and leaves, of any sound tables: the object was free or the passage's own and is held after it, the answer is the value before,
 -- a write leaves its value and a read the old one, and the visit that operated is still open after it.
 -- The idea: an accepted delivery of a call is one store, and its object stands where the call's bank says. Assumes nothing.
-use Prim.Native.Nat.{ℕ, _+_, _/_, _%_, _≤_, _<_, max}
+use Prim.Native.Nat.{ℕ, _/_, _%_, _≤_, _<_}
 use native.Mathlib.Omega.{arith}
-use mathlib.Core.Path.{_≡_, refl, sym, ap, _∙_, subst}
-use mathlib.Core.Logic.{⊎-elim, _⊎_, inl, inr}
-use mathlib.Core.Bool.{Bool, true, false, cond, _&&_, true≢false, false≢true}
+use mathlib.Core.Path.{_≡_, refl, sym, ap, _∙_}
+use mathlib.Core.Logic.{_≢_, ⊎-elim, _⊎_, inl, inr}
+use mathlib.Core.Bool.{true, false, cond, true≢false, false≢true}
 use lib.Dec.{eqb, leb}
-use lib.ListN.{getD}
-use lib.Seq.{getD-set-same}
+use lib.Seq.{getD-set-same, getD-set-other}
 use borrow.Author.Tests.{eqb-true, leb-false}
 use Rattle.rules.specs.declared.tables.Object.{Object}
 use Rattle.rules.specs.LoopsLaws.{either, and-left, and-right, or-left, or-right, not-false}
@@ -22,11 +21,12 @@ use Rattle.rules.specs.Machine.{lookOf, placesOf, decideOf, stored, stepOf}
 use Rattle.rules.specs.RangesLaws.{placed-places}
 use Rattle.rules.specs.RangesFits.{call-range-says}
 use Rattle.rules.specs.StoredLaws.{site-after-stored, visit-after-stored}
-use Rattle.rules.specs.StoredObjects.{seen-object, object-after-stored}
+use Rattle.rules.specs.StoredObjects.{seen-object, object-after-stored, object-after-stored-other}
 use Rattle.rules.specs.Record.{isStep}
 use Rattle.rules.specs.Events.{isHolding}
 use Rattle.rules.specs.Views.{Objects, deedOf}
 use Rattle.runs.specs.Types.{Site, Visit, Call, Body, Tables, Step, Answer, Places, Seen, Decision}
+use Rattle.runs.specs.Walk.Put.{same-or-other}
 use Rattle.runs.specs.Walk.Steps.{placesAt, seenAt}
 use Rattle.runs.specs.Walk.Sound.{Sound}
 use Rattle.runs.specs.Holders.HeldStore.{Held}
@@ -89,6 +89,20 @@ module _ (t : Tables) (m : ℕ) (c : Call) (z : Sound t) (a : isAccepted (stepOf
       ∙ getD-set-same (Saw .objects) (c .object % 4) (operated c (taken (mailSlot Saw) (calledObject c Saw))) pastObject (omega arith)
       ∙ ap (λ (o : Object). operated c (taken (mailSlot Saw) o)) object-seen
 
+  -- every other object
+  objects-left : (j : ℕ) → j ≢ c .object → objectAt (stepOf t (Step.Deliver m) .tables) j ≡ objectAt t j
+  objects-left j n =
+      ap (λ (u : Tables). objectAt u j) left-there
+      ∙ ⊎-elim
+      (λ (e : objectSite j ≡ At .bank).
+      let x : j / 4 ≡ At .bank = e in
+      let y : c .object / 4 ≡ At .bank = bank-here in
+      object-after-stored t At (called c (mailClock Saw) Saw) (z .sized) (placed-places t (lookOf (Step.Deliver m))) j e
+      ∙ getD-set-other (Saw .objects) (c .object % 4) (j % 4) _ pastObject (λ (q : j % 4 ≡ c .object % 4). n (omega arith))
+      ∙ seen-object t j (At .bank) e)
+      (λ d. object-after-stored-other t At (called c (mailClock Saw) Saw) j d)
+      (same-or-other (objectSite j) (At .bank))
+
   site-left : siteAt (stepOf t (Step.Deliver m) .tables) (At .site) ≡ called c (mailClock Saw) Saw .site
   site-left =
       ap (λ (u : Tables). siteAt u (At .site)) left-there
@@ -122,6 +136,7 @@ record Operation (t : Tables) (p k : ℕ) (s : Step) : Type 0 where
   free : isHeldByOther p (objectAt t k) ≡ false
   answer : stepOf t s .answer ≡ Answer.Accepted (objectAt t k .value)
   after : objectAt (stepOf t s .tables) k ≡ operated call (taken p (objectAt t k))
+  others : (j : ℕ) → j ≢ k → objectAt (stepOf t s .tables) j ≡ objectAt t j
   station : Held t → operatedAt t s ≡ objectSite k
   opened : StillOpen (stepOf t s .tables) (operatedAt t s) p
   times :
@@ -150,12 +165,19 @@ module _ (t : Tables) (z : Sound t) where
         free = rw (← e, ← o) (rw (object-seen t m c z a b) at (fine t m c z a b .unheld));
         answer = rw (← o) (rw (object-seen t m c z a b) at (answered t m c z a b));
         after = rw (← e, ← o) (object-left t m c z a b);
+        others = λ j n. objects-left t m c z a b j (λ y. n (y ∙ o));
         station =
             λ held.
             let d : messageAt t (m % 32) .destination ≡ c .object / 4 = held .calls (m % 32) c b .0 in
             rw (← o, d) (omega arith);
         opened = rw (← e) (open-left t m c z a b);
-        times = rw (← e, b) (⊎-elim (λ (y : v .there ≡ true). rw (visit-left t m c z a b, y) (refl, refl)) (λ (y : v .there ≡ false). rw (visit-left t m c z a b, y) (refl, refl)) (either (v .there)));
+        times =
+            rw
+            (← e, b)
+            (⊎-elim
+            (λ (y : v .there ≡ true). rw (visit-left t m c z a b, y) (refl, refl))
+            (λ (y : v .there ≡ false). rw (visit-left t m c z a b, y) (refl, refl))
+            (either (v .there)));
       }
   call-operation m p k (Body.PhaseOne n asked) b a e f = absurd (false≢true f)
   call-operation m p k (Body.PhaseTwo n told) b a e f = absurd (false≢true f)
@@ -231,6 +253,10 @@ module _ (t : Tables) (p k : ℕ) (s : Step) (z : Sound t) (operating : operates
   -- so the width that stands is as it was
   pub standing-after-operated : standing (objectAt (stepOf t s .tables) k) ≡ standing (objectAt t k)
   standing-after-operated = ap standing (op .after) ∙ standing-after-call p (op .call) (objectAt t k)
+
+  -- an operation leaves every other object as it was
+  pub others-after-operated : (j : ℕ) → j ≢ k → objectAt (stepOf t s .tables) j ≡ objectAt t j
+  others-after-operated = op .others
 
   -- after an operation the station is up, and the passage's visit there is there, not dead, and before its quiesce time
   pub nothing-after-quiesce : StillOpen (stepOf t s .tables) (operatedAt t s) p

@@ -1,6 +1,6 @@
 -- An accepted step that goes through no slots is its own store: its answer is the decision's, and its tables are what the decision left, stored.
 -- Assumes nothing.
-use mathlib.Core.Path.{_≡_, refl, ap, _∙_}
+use mathlib.Core.Path.{_≡_, ap, _∙_}
 use mathlib.Core.Logic.{⊎-elim}
 use mathlib.Core.Bool.{true, false≢true}
 use Rattle.rules.specs.declared.looking.Trip.{Trip}
@@ -9,7 +9,7 @@ use Rattle.rules.specs.Answers.{isAccepted}
 use Rattle.rules.specs.Ranges.{inRange}
 use Rattle.rules.specs.RangesLaws.{placed-places, seen-in-range}
 use Rattle.rules.specs.RangesFits.{SeenFits, seen-says}
-use Rattle.rules.specs.Machine.{lookOf, foundOf, decideOf, stored, headOf, turnsUpTo, turnCount, stepInRangeOf, stepOf}
+use Rattle.rules.specs.Machine.{lookOf, foundOf, decideOf, stored, headOf, turnsUpTo, turnCount, stepOf}
 use Rattle.runs.specs.Types.{Tables, Step, Decision, Outcome}
 use Rattle.runs.specs.Walk.Steps.{placesAt, seenAt, accepted-turned, head-accepted}
 

@@ -63,7 +63,9 @@ answers-one-more t (x ∷ rs) r = ap (λ (l : List Answer). stepRecordOf t x .an
 abbrev pub answersUpTo : List ℕ → ℕ → List Answer
 answersUpTo part n = recordAnswersOf start (recordsUpTo part n)
 
-answers-up-to-next : (part : List ℕ) (n : ℕ) → answersUpTo part (suc n) ≡ answersUpTo part n ++ (stepRecordOf (printedUpTo part n .tables) (recordAt part n) .answer ∷ [])
+answers-up-to-next :
+    (part : List ℕ) (n : ℕ)
+    → answersUpTo part (suc n) ≡ answersUpTo part n ++ (stepRecordOf (printedUpTo part n .tables) (recordAt part n) .answer ∷ [])
 unfolding recordsUpTo
 answers-up-to-next part n = rw (printed-is-run part n) (answers-one-more start (recordsUpTo part n) (recordAt part n))
 
