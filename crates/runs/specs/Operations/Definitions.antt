@@ -29,7 +29,7 @@ abbrev pub operates : Tables → ℕ → ℕ → Step → Bool
 operates t p k s =
     isAccepted (stepOf t s .answer) && (isStep 11 s && (eqb (slotOf (mailNamed t s .handle)) p && callsFor k (mailNamed t s .body)))
 
--- whether the operation writes, and the value that it is to write; 0 for a read
+-- whether the operation writes, and the value that the call brings
 abbrev pub isWrite : Body → Bool
 isWrite = bySaying false (λ c. c .write) (λ a. false) (λ d. false)
 

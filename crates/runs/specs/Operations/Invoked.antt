@@ -106,7 +106,7 @@ module _ (t : Tables) (h site b k u : ℕ) (z : Sound t) (a : isAccepted (stepOf
 
   -- an accepted invoke leaves a call, in the message slot that it answers, which was empty:
   -- the object, the operation and the value as the step names them, from its site to the object's
-  pub invoked-says : SaysCall t (stepOf t Done .tables) h site b k u (answerValue (stepOf t Done .answer))
+  pub invoked-says : SaysCall t (stepOf t (Step.Invoke h site b k u) .tables) h site b k u (answerValue (stepOf t (Step.Invoke h site b k u) .answer))
   invoked-says = rw answered (rw here at says)
 
   still-open : StillOpen (stepOf t Done .tables) (At .site) (At .slot)
@@ -119,7 +119,7 @@ module _ (t : Tables) (h site b k u : ℕ) (z : Sound t) (a : isAccepted (stepOf
       }
 
   -- after an accepted invoke the station is up, and the passage's visit there is there, not dead, and before its quiesce time
-  pub nothing-sent-after-quiesce : StillOpen (stepOf t Done .tables) site (slotOf h)
+  pub nothing-sent-after-quiesce : StillOpen (stepOf t (Step.Invoke h site b k u) .tables) site (slotOf h)
   unfolding placesOf
   nothing-sent-after-quiesce = rw here at still-open
 
@@ -127,6 +127,6 @@ module _ (t : Tables) (h site b k u : ℕ) (z : Sound t) (a : isAccepted (stepOf
   same-times = rw visit-left (record { quiesce = refl; release = refl; round = refl })
 
   -- and it leaves the times of that visit as they were
-  pub times-after-invoked : SameTimes (visitAt t site (slotOf h)) (visitAt (stepOf t Done .tables) site (slotOf h))
+  pub times-after-invoked : SameTimes (visitAt t site (slotOf h)) (visitAt (stepOf t (Step.Invoke h site b k u) .tables) site (slotOf h))
   unfolding placesOf
   times-after-invoked = rw here at same-times
