@@ -1,13 +1,61 @@
--- Laws of the answers: what an accepted answer says of every check, and what a refused decision leaves. Assumes nothing.
-use Prim.Native.Nat.{ℕ}
-use mathlib.Core.Path.{_≡_, refl}
-use mathlib.Core.Logic.{⊎-elim}
+-- Laws of the answers: that the numbers tell the refusals apart, what an accepted answer says of every check, and what a refused decision leaves.
+-- Assumes nothing.
+use Prim.Native.Nat.{ℕ, _-_, _≤_}
+use native.Mathlib.Omega.{arith}
+use mathlib.Core.Path.{_≡_, refl, sym, ap, _∙_}
+use mathlib.Core.Logic.{_≢_, ⊎-elim}
 use mathlib.Core.Bool.{Bool, true, false, cond, false≢true}
 use mathlib.Core.List.{List, [], _∷_}
 use lib.Dec.{eqb}
+use lib.ListN.{getD}
 use Rattle.rules.specs.Types.{Refusal, Answer, Check, Seen, Decision}
-use Rattle.rules.specs.Answers.{refusalNumber, isAccepted, firstOf, settleOf}
+use Rattle.rules.specs.Answers.{refusalNumber, answerNumber, isAccepted, firstOf, settleOf}
 use Rattle.rules.specs.LoopsLaws.{either, cond-keeps}
+
+-- ---- the numbers
+
+-- the refusals by number from 1; 20 stands past the end
+abbrev byNumber : List Refusal
+byNumber =
+    Refusal.NoStep ∷ Refusal.BadField ∷ Refusal.NotThere ∷ Refusal.SiteDown ∷ Refusal.WrongState
+    ∷ Refusal.NoVisit ∷ Refusal.ClockFull ∷ Refusal.Quiesced ∷ Refusal.WrongRound ∷ Refusal.Held
+    ∷ Refusal.Full ∷ Refusal.NotClosed ∷ []
+
+-- a number is a refusal's own
+record Numbered (r : Refusal) : Type 0 where
+  back : getD byNumber (refusalNumber r - 1) Refusal.OutOfRange ≡ r
+  above : 1 ≤ refusalNumber r
+
+numbered : (r : Refusal) → Numbered r
+numbered Refusal.OutOfRange = record { back = refl; above = omega arith }
+numbered Refusal.NoStep = record { back = refl; above = omega arith }
+numbered Refusal.BadField = record { back = refl; above = omega arith }
+numbered Refusal.NotThere = record { back = refl; above = omega arith }
+numbered Refusal.SiteDown = record { back = refl; above = omega arith }
+numbered Refusal.WrongState = record { back = refl; above = omega arith }
+numbered Refusal.NoVisit = record { back = refl; above = omega arith }
+numbered Refusal.ClockFull = record { back = refl; above = omega arith }
+numbered Refusal.Quiesced = record { back = refl; above = omega arith }
+numbered Refusal.WrongRound = record { back = refl; above = omega arith }
+numbered Refusal.Held = record { back = refl; above = omega arith }
+numbered Refusal.Full = record { back = refl; above = omega arith }
+numbered Refusal.NotClosed = record { back = refl; above = omega arith }
+
+-- no refusal has number 0, which is that of an accepted step
+pub refusal-not-zero : (r : Refusal) → refusalNumber r ≢ 0
+refusal-not-zero r e = omega (arith, e, numbered r .above)
+
+-- no two refusals have one number
+pub refusals-differ : (r s : Refusal) → refusalNumber r ≡ refusalNumber s → r ≡ s
+refusals-differ r s e =
+    sym (numbered r .back) ∙ ap (λ (n : ℕ). getD byNumber (n - 1) Refusal.OutOfRange) e ∙ numbered s .back
+
+-- so an answer has number 0 exactly if it is accepted
+pub accepted-is-zero : (a : Answer) → (isAccepted a ≡ true → answerNumber a ≡ 0) × (answerNumber a ≡ 0 → isAccepted a ≡ true)
+accepted-is-zero (Answer.Accepted v) = (λ e. refl, λ e. refl)
+accepted-is-zero (Answer.Refused r) = (λ e. absurd (false≢true e), λ e. absurd (refusal-not-zero r e))
+
+-- ---- checks and decisions
 
 -- no check of the list holds, check by check
 abbrev pub Clear : List Check → Type 0

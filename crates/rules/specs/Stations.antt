@@ -46,10 +46,14 @@ sweepDone site seen =
 unfoldable pub sweepOf : ℕ → Seen → Decision
 sweepOf site seen = settleOf (sweepDone site seen) seen
 
+-- a visit that a sweep may take: "unprepared"
+abbrev pub isSweepable : Visit → Bool
+isSweepable v = not (v .prepared)
+
 -- "for every unprepared visit there with R ≤ clock"
 abbrev pub isSwept : Seen → Bool
 isSwept seen =
-    seen .visit .there && not (seen .visit .prepared) && leb (seen .visit .release) (seen .site .clock)
+    seen .visit .there && isSweepable (seen .visit) && leb (seen .visit .release) (seen .site .clock)
 
 -- "If the passage is active and this is its home: aborted, phase none."
 abbrev pub sweptPassage : ℕ → Passage → Passage

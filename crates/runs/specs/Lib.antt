@@ -8,5 +8,6 @@ pub mod Holders
 pub mod Orphans
 pub mod Promises
 pub mod Events
+pub mod Operations
 pub mod Moves
 pub mod Commits

@@ -1,0 +1,8 @@
+-- What one step does, of any tables: what an operation answers and leaves, what a call says, when a delivery comes, by what an object is let go.
+pub mod Definitions
+pub mod Single
+pub mod Operated
+pub mod Invoked
+pub mod Delivered
+pub mod HeldAway
+pub mod LetGo
