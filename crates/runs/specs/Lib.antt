@@ -11,3 +11,4 @@ pub mod Events
 pub mod Operations
 pub mod Moves
 pub mod Commits
+pub mod Order

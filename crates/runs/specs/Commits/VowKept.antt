@@ -34,6 +34,12 @@ none-not-one e = false≢true (ap isPhaseOne e)
 none-not-two : Phase.None ≡ Phase.Two → ⊥
 none-not-two e = false≢true (ap isPhaseTwo e)
 
+pub prepare-says : (kind : Kind) → isPrepare kind ≡ true → kind ≡ Kind.Prepare
+prepare-says Kind.None y = absurd (false≢true y)
+prepare-says (Kind.Refresh q r) y = absurd (false≢true y)
+prepare-says Kind.Terminate y = absurd (false≢true y)
+prepare-says Kind.Prepare y = refl
+
 -- a committed passage is telling
 pub committed-tells : (p : Passage) → RoundFits p → p .status ≡ Status.Committed → (p .round .kind ≡ Kind.Prepare) × (p .round .phase ≡ Phase.Two)
 committed-tells p f e = subst (λ (s : Status). RoundFor s (p .round .kind) (p .round .phase)) e f
@@ -368,12 +374,6 @@ module _ (w : View) (l : Ledger) (a k c source : ℕ) (v : Visit) (m : Message) 
             two;
         answers = λ y. absurd (true≢false (sym y ∙ silent));
       })
-    where
-      prepare-says : (kind : Kind) → isPrepare kind ≡ true → kind ≡ Kind.Prepare
-      prepare-says Kind.None y = absurd (false≢true y)
-      prepare-says (Kind.Refresh q r) y = absurd (false≢true y)
-      prepare-says Kind.Terminate y = absurd (false≢true y)
-      prepare-says Kind.Prepare y = refl
   vow-moved p none (Move.Begins free status round i y) =
       vow-silent p (rw (status, round)) round
       (put-all (w .mail) k m (λ j x. x .body ≡ Body.Empty) (ap (λ (x : Message). x .body) y ∙ h .free free .mail k) (λ j n. h .free free .mail j))
