@@ -68,7 +68,7 @@ used-moved (Move.Replies n asked body e was below x i silent reply) g u = rw e u
 used-moved (Move.Hears n told body e was x i y) g u = rw e u
 used-moved (Move.Collects n r q body number at e x i stamp y) g u = rw e u
 
-used-turned : {w : View} {a : ℕ} {p : Passage} {v : Visit} {trip : Trip} → Turn w a p v trip → isFree (w .passage .status) ≡ false → isFree (p .status) ≡ false
+pub used-turned : {w : View} {a : ℕ} {p : Passage} {v : Visit} {trip : Trip} → Turn w a p v trip → isFree (w .passage .status) ≡ false → isFree (p .status) ≡ false
 used-turned (Turn.Stays trip e x) u = rw e u
 used-turned {w = w} (Turn.Sweeps site aborts active e was unprepared x) u = rw e (used-aborted aborts (w .passage) u)
 used-turned {w = w} (Turn.Crashes site aborts hits runs e unhit x) u = rw e (used-aborted aborts (w .passage) u)
