@@ -16,25 +16,21 @@ use Rattle.runs.specs.Types.{Call, Body, Tables, Step}
 use Rattle.runs.specs.Walk.Steps.{head-accepted}
 use Rattle.runs.specs.Holders.HeldStore.{Held}
 use Rattle.runs.specs.Holders.Holders.{held-run}
-use Rattle.runs.specs.Events.Uses.{InPlace, AllInPlace}
+use Rattle.runs.specs.Events.Uses.{All, InPlace, AllInPlace}
 use Rattle.runs.specs.Events.HoldSteps.{Did, took, let-go, idle, decided-did}
 use Rattle.runs.specs.Events.HoldStores.{leftBy}
 use Rattle.runs.specs.Events.EventsLaws.{refused-no-event, acting-events, idle-no-event}
 
 -- ---- lists
 
-joined-in-place :
-    (t : Tables) (step : Step) (xs ys : List Event) → AllInPlace t step xs → AllInPlace t step ys → AllInPlace t step (xs ++ ys)
-joined-in-place t step [] ys f g = g
-joined-in-place t step (x ∷ xs) ys f g = (f .0, joined-in-place t step xs ys (f .1) g)
+pub all-joined : {A : Type 0} (P : A → Type 0) (xs ys : List A) → All P xs → All P ys → All P (xs ++ ys)
+all-joined P [] ys f g = g
+all-joined P (x ∷ xs) ys f g = (f .0, all-joined P xs ys (f .1) g)
 
-join-in-place :
-    (t : Tables) (step : Step) (f : ℕ → List Event) (n : ℕ) → ((i : ℕ) → i < n → AllInPlace t step (f i))
-    → AllInPlace t step (joinUpTo f n)
+pub all-up-to : (P : Event → Type 0) (f : ℕ → List Event) (n : ℕ) → ((i : ℕ) → i < n → All P (f i)) → All P (joinUpTo f n)
 unfolding joinUpTo
-join-in-place t step f zero h = tt
-join-in-place t step f (suc n) h =
-    joined-in-place t step (joinUpTo f n) (f n) (join-in-place t step f n (λ i l. h i (omega arith))) (h n (omega arith))
+all-up-to P f zero h = tt
+all-up-to P f (suc n) h = all-joined P (joinUpTo f n) (f n) (all-up-to P f n (λ i l. h i (omega arith))) (h n (omega arith))
 
 -- an event or none
 if-in-place : (t : Tables) (step : Step) (b : Bool) (e : Event) → InPlace t step e → AllInPlace t step (cond b (e ∷ []) [])
@@ -55,8 +51,8 @@ module _ (t : Tables) (step : Step) (acts : actsAtSite step ≡ true) where
   unfolding freedOf
   freed-in-place =
       let s : placesOf t (lookOf step) .site < 8 = placed-places t (lookOf step) .site in
-      join-in-place t step (freedBy t step) 16 λ slot p.
-      join-in-place t step _ 4 λ i l.
+      all-up-to (InPlace t step) (freedBy t step) 16 λ slot p.
+      all-up-to (InPlace t step) _ 4 λ i l.
       if-in-place
       t
       step
@@ -69,9 +65,8 @@ module _ (t : Tables) (step : Step) (acts : actsAtSite step ≡ true) where
       → AllInPlace t step (bodyEvents t step (placesOf t (lookOf step) .slot) (Body.Call c))
   call-in-place c k s =
       let p : placesOf t (lookOf step) .slot < 16 = placed-places t (lookOf step) .slot in
-      joined-in-place
-      t
-      step
+      all-joined
+      (InPlace t step)
       (tookOf t step (placesOf t (lookOf step) .slot) (c .object))
       _
       (if-not-in-place t step (isHolding t (placesOf t (lookOf step) .slot) (c .object)) _ (event-in-place EventKind.Took _ (c .object) p k s))
@@ -84,9 +79,8 @@ accepted-in-place :
 accepted-in-place t step a (took c f) =
     rw
     (acting-events t step a (f .acts), f .delivers)
-    (joined-in-place
-    t
-    step
+    (all-joined
+    (InPlace t step)
     (bodyEvents t step (placesOf t (lookOf step) .slot) (Body.Call c))
     (freedOf t step)
     (call-in-place t step (f .acts) c (f .object) (f .site))

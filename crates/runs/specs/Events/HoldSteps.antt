@@ -23,6 +23,7 @@ use Rattle.rules.specs.Passages.{beginOf, abortOf, retireOf}
 use Rattle.rules.specs.Rounds.{refreshOf, terminateOf, prepareOf, openOf, askOf, closeOf, tellOf, closed, roundTold}
 use Rattle.rules.specs.Calls.{mailClock, mailSlot, calledObject, called, invokeOf, emptyOf, deliverCallOf, deliverPhaseOneOf, deliverPhaseTwoOf, deliverAnswerOf, deliverBodyOf, dropOf}
 use Rattle.rules.specs.Machine.{lookOf, placesOf, seenOf, decideOf}
+use Rattle.rules.specs.Record.{flatOf, isStep}
 use Rattle.rules.specs.Runs.{actsAtSite}
 use Rattle.rules.specs.StoredObjects.{each-at}
 use Rattle.rules.specs.Events.{bodyEvents, deliveredOf}
@@ -109,6 +110,9 @@ TripAt (Trip.Crash site) s = site % 8 ≡ s
 
 -- a call: it took its object, which stands at the acting site
 pub record Takes (t : Tables) (step : Step) (c : Call) (left : Seen) : Type 0 where
+  pub code : isStep 11 step ≡ true
+  pub body : messageAt t (flatOf step .c % 32) .body ≡ Body.Call c
+  pub slot : slotOf (messageAt t (flatOf step .c % 32) .handle) ≡ placesOf t (lookOf step) .slot
   pub acts : actsAtSite step ≡ true
   pub trip : lookOf step .trip ≡ Trip.Nowhere
   pub delivers : deliveredOf t step ≡ bodyEvents t step (placesOf t (lookOf step) .slot) (Body.Call c)
@@ -169,6 +173,9 @@ module _ (t : Tables) (m : ℕ) (held : Held t) where
       took
       c
       (record {
+        code = refl;
+        body = e;
+        slot = refl;
         acts = refl;
         trip = refl;
         delivers = rw e;

@@ -20,9 +20,13 @@ pub record InPlace (t : Tables) (step : Step) (e : Event) : Type 0 where
   pub site : e .site ≡ objectSite (e .object)
   pub stamp : e .stamp ≡ siteAt (stepOf t step .tables) (e .site) .clock
 
+-- every one of a list
+abbrev pub All : {A : Type 0} → (A → Type 0) → List A → Type 0
+All P [] = Unit {0}
+All P (x ∷ xs) = P x × All P xs
+
 abbrev pub AllInPlace : Tables → Step → List Event → Type 0
-AllInPlace t step [] = Unit {0}
-AllInPlace t step (e ∷ es) = InPlace t step e × AllInPlace t step es
+AllInPlace t step = All (InPlace t step)
 
 -- ---- the use of a slot: how many accepted retires of it came before, a number without end
 
