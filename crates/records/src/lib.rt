@@ -7,6 +7,7 @@ ghost use Prim.Native.Nat.{_+_, _*_, _-_, _%_, _≤_};
 ghost use mathlib.Core.Path.{_≡_};
 ghost use lib.ListN.{getD};
 ghost use Rattle.rules.specs.declared.steps.Step.{Step};
+ghost use Rattle.rules.specs.declared.steps.Reading.{Reading};
 ghost use Rattle.rules.specs.Record.{fieldsOf, bytesOf, isCode, rowOf, isNamed, fits, fieldsFit, kept, keptFields, stepsOf, flat, flatOf, stepOfFields, stepOfRecord, recordOfStep};
 
 // The row of code k is the k-th. In a row field a counts 1, b 2, c 4, h 8, u 16 and v 32.
@@ -275,9 +276,9 @@ pub fn read_record(b: [u8; 16]) -> Reading
     step_of_fields(fields_of(b))
 }
 
-// The bytes that stand for this step.
+// The bytes that stand for this step; they read as it.
 pub fn write_record(s: Step) -> [u8; 16]
-    ensures { λ r. ⌜ r ≡ recordOfStep s ⌝ }
+    ensures { λ r. ⌜ (r ≡ recordOfStep s) × (stepOfRecord r ≡ Reading.Known s) ⌝ }
 {
     bytes_of(kept_fields(flat_of(s)))
 }
