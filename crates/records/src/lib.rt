@@ -7,7 +7,9 @@ ghost use Prim.Native.Nat.{_+_, _*_, _-_, _%_, _≤_};
 ghost use mathlib.Core.Path.{_≡_};
 ghost use lib.ListN.{getD};
 ghost use Rattle.rules.specs.declared.steps.Step.{Step};
+ghost use Rattle.rules.specs.declared.steps.Reading.{Reading};
 ghost use Rattle.rules.specs.Record.{fieldsOf, bytesOf, isCode, rowOf, isNamed, fits, fieldsFit, kept, keptFields, stepsOf, flat, flatOf, stepOfFields, stepOfRecord, recordOfStep};
+ghost use Rattle.records.specs.RoundTrip.{WritesAs};
 
 // The row of code k is the k-th. In a row field a counts 1, b 2, c 4, h 8, u 16 and v 32.
 const NAMED: [u8; 16] = [17, 51, 31, 56, 8, 8, 9, 8, 9, 8, 4, 4, 1, 1, 1, 8];
@@ -268,16 +270,16 @@ fn step_of_fields(f: Fields) -> Reading
     Reading::Nothing
 }
 
-// The step that these bytes stand for, or none.
+// The step that these bytes stand for, or none; a step that is read writes as these bytes.
 pub fn read_record(b: [u8; 16]) -> Reading
-    ensures { λ r. ⌜ r ≡ stepOfRecord b ⌝ }
+    ensures { λ r. ⌜ (r ≡ stepOfRecord b) × WritesAs b r ⌝ }
 {
     step_of_fields(fields_of(b))
 }
 
-// The bytes that stand for this step.
+// The bytes that stand for this step; they read as it.
 pub fn write_record(s: Step) -> [u8; 16]
-    ensures { λ r. ⌜ r ≡ recordOfStep s ⌝ }
+    ensures { λ r. ⌜ (r ≡ recordOfStep s) × (stepOfRecord r ≡ Reading.Known s) ⌝ }
 {
     bytes_of(kept_fields(flat_of(s)))
 }

@@ -1,4 +1,5 @@
--- Demand 3: its definitions, what is watched of an orphan along a run, the sweep and the theorem; then that an orphan's figures are undone.
+-- Demand 3: its definitions, what is watched of an orphan along a run, the sweep and the theorem, and that every station can be cleared;
+-- then that an orphan's figures are undone.
 pub mod Orphans
 pub mod Watch
 pub mod WatchKept
@@ -14,6 +15,7 @@ pub mod WatchSteps
 pub mod Swept
 pub mod OrphansGone
 pub mod DemandThree
+pub mod Cleared
 pub mod Widths
 pub mod Rests
 pub mod RestSteps

@@ -5,11 +5,11 @@ use Rattle.machine.proofs.whole.record_in_range.Tie as tie
 
 returns : tie.Need-returns
 unfolding recordInRangeOf
-returns c = rw (← c .before .before .read-record .ensures, c .enum-told .given .1)
+returns c = rw (← c .before .before .read-record .ensures .0, c .enum-told .given .1)
 
 returns-2 : tie.Need-returns-2
 unfolding recordInRangeOf
-returns-2 c = rw (c .step-in-range .ensures, ← c .before .before .before .before .read-record .ensures, c .before .before .reading .given .1)
+returns-2 c = rw (c .step-in-range .ensures, ← c .before .before .before .before .read-record .ensures .0, c .before .before .reading .given .1)
 
 pub record-in-range-spec : {M : Type 1} → statement M
 record-in-range-spec =

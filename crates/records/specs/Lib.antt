@@ -1,0 +1,2 @@
+-- What the reader's contract says besides the definition. Assumes nothing.
+pub mod RoundTrip
