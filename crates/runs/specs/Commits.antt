@@ -4,3 +4,4 @@ pub mod VowKept
 pub mod Pledged
 pub mod Since
 pub mod Over
+pub mod Word

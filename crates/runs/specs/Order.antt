@@ -5,3 +5,4 @@ pub mod Marked
 pub mod SweptLedger
 pub mod Listed
 pub mod Before
+pub mod Stamps

@@ -38,7 +38,7 @@ aborted-not-committed e = true≢false (ap isAborted e)
 
 -- ---- over is over
 
-abbrev StatusIs : Status → View → Ledger → Type 0
+abbrev pub StatusIs : Status → View → Ledger → Type 0
 StatusIs s w l = w .passage .status ≡ s
 
 -- nothing is asked on the way of a sweep or a crash
@@ -118,7 +118,7 @@ module _ (s : Status) (over : isOver s ≡ true) where
   over-turned x (Turn.Crashes site true hits runs e unhit y) = absurd (not-running (ap isRunning (sym x) ∙ runs refl))
   over-turned x (Turn.Crashes site false hits runs e unhit y) = ap (λ (q : Passage). q .status) e ∙ x
 
-  over-carries : Carries (StatusIs s) NoWay
+  pub over-carries : Carries (StatusIs s) NoWay
   over-carries =
       record {
         moved = λ l source h o x move u. over-moved (o .round) x move u;

@@ -10,7 +10,7 @@ use Rattle.rules.specs.Tables.{start, passageAt, messageAt, pastPassage, freeSl
 use Rattle.rules.specs.Stations.{isSwept, sweptSlot, crashedSlot}
 use Rattle.rules.specs.Answers.{isAccepted}
 use Rattle.rules.specs.Parts.{isFree}
-use Rattle.rules.specs.Machine.{lookOf, placesOf, seenOf, decideOf, foundOf, stored, headOf, tripPlaces, turnSeen, turnOf}
+use Rattle.rules.specs.Machine.{lookOf, placesOf, seenOf, decideOf, foundOf, stored, headOf, tripPlaces, turnSeen, turnOf, stepOf}
 use Rattle.rules.specs.StoredLaws.{Sized, Placed, turn-stored}
 use Rattle.rules.specs.RangesLaws.{placed-places, placed-trip}
 use Rattle.rules.specs.Runs.{Started, runOf}
@@ -18,7 +18,7 @@ use Rattle.runs.specs.Types.{Status, Passage, Body, Message, Tables, Ste
 use Rattle.runs.specs.Walk.Says.{carriesCommit, isPrepare}
 use Rattle.runs.specs.Walk.Plain.{repeat-has}
 use Rattle.runs.specs.Walk.Put.{put-all}
-use Rattle.runs.specs.Walk.Steps.{placesAt, seenAt, good-after-run}
+use Rattle.runs.specs.Walk.Steps.{placesAt, seenAt, ghostStep, good-after-step, good-after-run}
 use Rattle.runs.specs.Times.View.{View, Ledger, mailOf, viewOf, noLedger}
 use Rattle.runs.specs.Times.Clauses.{Holds}
 use Rattle.runs.specs.Times.Store.{leftView, nextLedger, nextLedgers, Fitting, mail-after-other, own-view, other-view, holds-after-fitting}
@@ -141,6 +141,9 @@ pledged-after-turn trip slot o ls i k =
           (ap (mailOf slot) (turned-message trip slot (seenOf t at)))
           (turn-of t trip slot))));
     }
+
+pub pledged-after-step : (t : Tables) (step : Step) (ls : ℕ → Ledger) → Pledged t ls → Pledged (stepOf t step .tables) (ghostStep headLedgers turnLedgers t step ls)
+pledged-after-step = good-after-step headLedgers turnLedgers Pledged pledged-after-head pledged-after-turn
 
 -- ---- every run
 
