@@ -167,7 +167,11 @@ pledged-at-start =
           };
     }
 
+-- where a run begins
+pub pledged-started : {t₀ : Tables} → Started t₀ → Pledged t₀ (λ p. noLedger)
+pledged-started fresh = rw (fresh .empty) pledged-at-start
+
 pub pledged-run : {t₀ : Tables} → Started t₀ → (ss : List Step) → Pledged (runOf t₀ ss) (ledgersOf t₀ ss)
 unfolding ledgersOf
 pledged-run {t₀} fresh ss =
-    good-after-run headLedgers turnLedgers Pledged pledged-after-head pledged-after-turn t₀ ss (λ p. noLedger) (rw (fresh .empty) pledged-at-start)
+    good-after-run headLedgers turnLedgers Pledged pledged-after-head pledged-after-turn t₀ ss (λ p. noLedger) (pledged-started fresh)

@@ -19,26 +19,25 @@ use Rattle.rules.specs.PartsLaws.{unheld-not-held, one-holder}
 use Rattle.rules.specs.Machine.{stepOf}
 use Rattle.rules.specs.Record.{flatOf, isStep}
 use Rattle.rules.specs.Runs.{Started, runOf}
-use Rattle.rules.specs.Events.{Event, isHolding, eventsOf}
+use Rattle.rules.specs.Events.{EventKind, isHolding, eventsOf}
 use Rattle.runs.specs.Types.{Status, Tables, Step}
 use Rattle.runs.specs.Walk.Put.{same-or-other}
 use Rattle.runs.specs.Times.View.{Ledger}
-use Rattle.runs.specs.Times.Ledgers.{ledgersOf}
 use Rattle.runs.specs.Holders.HeldStore.{Held}
 use Rattle.runs.specs.Holders.Holders.{held-started, held-step}
 use Rattle.runs.specs.Orphans.Orphans.{retires}
 use Rattle.runs.specs.Events.Uses.{All, InPlace, usesAfter, PassageEvent, withUses, eventsFrom, eventsUpTo, isOf, frees}
 use Rattle.runs.specs.Events.EventsInPlace.{events-in-place-from}
 use Rattle.runs.specs.Events.HeldByList.{retired-holds-nothing}
-use Rattle.runs.specs.Operations.Definitions.{operates}
+use Rattle.runs.specs.Operations.Definitions.{operates, StillOpen}
 use Rattle.runs.specs.Operations.Operated.{operated-was-free-or-own, operated-is-held, others-after-operated, nothing-after-quiesce-there}
-use Rattle.runs.specs.Commits.Pledged.{Pledged, pledged-after-step, pledged-run}
+use Rattle.runs.specs.Commits.Pledged.{Pledged, pledged-after-step, pledged-started}
 use Rattle.runs.specs.Commits.Since.{Carried, step-carried}
 use Rattle.runs.specs.Commits.Over.{StatusIs, NoWay, over-carries}
 use Rattle.runs.specs.Order.Definitions.{Among, InOrder, operated, isOperation, isLettingGo}
 use Rattle.runs.specs.Order.Gone.{gone-carries}
 use Rattle.runs.specs.Order.Marked.{Marked, marked-carries}
-use Rattle.runs.specs.Order.Listed.{all-among, among-joined, among-ordered, ordered-joined, Means, events-mean, with-uses-means}
+use Rattle.runs.specs.Order.Listed.{all-among, among-joined, among-ordered, ordered-joined, ordered-first, ordered-second, Means, events-mean, with-uses-means}
 use Rattle.runs.specs.Order.Before.{marked-at-once, marked-before-letting-go, LetGo, let-go-at-once, operation-before-let-go}
 
 -- ---- what an event of a step with its use says
@@ -120,3 +119,156 @@ operation-lets-nothing-go t p k q j step held e y =
     (operated-was-free-or-own t p k step (held .sound) e))
     (λ other. ap (isHeldBy q) (others-after-operated t p k step (held .sound) e j other) ∙ y)
     (same-or-other j k)
+
+-- ---- along the list
+
+module _ (p u k : ℕ) where
+  -- after an operation with stamp x at site s every letting go in the same use has a larger one
+  marked-later :
+      (x s : ℕ) (t : Tables) (uses : ℕ → ℕ) (ss : List Step) (f : PassageEvent) → p < 16 → Held t → Carried (Marked x s) p t → uses p ≡ u
+      → Among f (eventsFrom t uses ss) → isLettingGo p u k f ≡ true → x < f .event .stamp
+  unfolding eventsFrom
+  marked-later x s t uses [] f slot held c used a y = absurd a
+  marked-later x s t uses (step ∷ ss) f slot held c used a y =
+      let of = named p u k f _ y in
+      ⊎-elim
+      (λ b.
+      let h = happens t uses step f held b in
+      let frees = and-right (isOf p u k f) _ y in
+      rw
+      (stamp-of t uses step f h)
+      (marked-before-letting-go x s p (f .event .object) t step slot c
+      (subst (λ (q : ℕ). isHolding t q (f .event .object) ≡ true) (of .slot) (h .means .held frees))
+      (subst (λ (q : ℕ). isHolding (stepOf t step .tables) q (f .event .object) ≡ false) (of .slot) (h .means .freed frees))))
+      (λ b.
+      let on = use-goes-on t uses step ss f p b (of .slot) (of .used ∙ sym used) in
+      marked-later x s (stepOf t step .tables) (usesAfter t step uses) ss f slot (held-step t step held)
+      (step-carried _ _ (marked-carries x s) p slot t step c (on .0))
+      (on .1 ∙ used)
+      b
+      y)
+      (among-joined (withUses uses (eventsOf t step)) _ f a)
+
+  -- after a letting go with stamp x at site s every operation in the same use has a smaller one
+  let-go-later :
+      (x s : ℕ) (t : Tables) (uses : ℕ → ℕ) (ss : List Step) (e : PassageEvent) → p < 16 → Held t → LetGo x s p t → uses p ≡ u
+      → Among e (eventsFrom t uses ss) → isOperation p u k e ≡ true → e .event .stamp < x
+  unfolding eventsFrom
+  let-go-later x s t uses [] e slot held c used a y = absurd a
+  let-go-later x s t uses (step ∷ ss) e slot held c used a y =
+      let of = named p u k e _ y in
+      ⊎-elim
+      (λ b.
+      let h = happens t uses step e held b in
+      let operates = subst (λ (q : ℕ). operates t q (e .event .object) step ≡ true) (of .slot) (h .means .operation (and-right (isOf p u k e) _ y)) in
+      rw (stamp-of t uses step e h) (operation-before-let-go x s p (e .event .object) t step slot held c operates))
+      (λ b.
+      let on = use-goes-on t uses step ss e p b (of .slot) (of .used ∙ sym used) in
+      let-go-later x s (stepOf t step .tables) (usesAfter t step uses) ss e slot (held-step t step held)
+      (⊎-elim
+      (λ d. inl (step-carried (StatusIs Status.Committed) NoWay (over-carries Status.Committed refl) p slot t step d (on .0)))
+      (λ d. inr (step-carried _ NoWay (gone-carries x s) p slot t step d (on .0)))
+      c)
+      (on .1 ∙ used)
+      b
+      y)
+      (among-joined (withUses uses (eventsOf t step)) _ e a)
+
+module _ (p u k j : ℕ) (e f : PassageEvent) (operation : isOperation p u k e ≡ true) (letting : isLettingGo p u j f ≡ true) where
+  -- no step does both
+  not-in-one-step : (t : Tables) (uses : ℕ → ℕ) (step : Step) → Held t → Among e (withUses uses (eventsOf t step)) → Among f (withUses uses (eventsOf t step)) → ⊥
+  not-in-one-step t uses step held a b =
+      let g = happens t uses step e held a in
+      let h = happens t uses step f held b in
+      let frees = and-right (isOf p u j f) _ letting in
+      true≢false
+      (sym
+      (operation-lets-nothing-go t (e .event .slot) (e .event .object) (f .event .slot) (f .event .object) step held
+      (g .means .operation (and-right (isOf p u k e) _ operation))
+      (h .means .held frees))
+      ∙ h .means .freed frees)
+
+  -- an operation of the passage in the list, and a letting go after it
+  operation-first :
+      (t : Tables) (ls : ℕ → Ledger) (uses : ℕ → ℕ) (ss : List Step) → Held t → Pledged t ls → InOrder e f (eventsFrom t uses ss)
+      → e .event .stamp < f .event .stamp
+  unfolding eventsFrom
+  operation-first t ls uses [] held pledged o = absurd o
+  operation-first t ls uses (step ∷ ss) held pledged o =
+      let one = named p u k e _ operation in
+      let other = named p u j f _ letting in
+      let next = pledged-after-step t step ls pledged in
+      ⊎-elim
+      (λ both. absurd (not-in-one-step t uses step held (ordered-first (withUses uses (eventsOf t step)) e f both) (ordered-second (withUses uses (eventsOf t step)) e f both)))
+      (⊎-elim
+      (λ b.
+      let h = happens t uses step e held (b .0) in
+      let slot : p < 16 = subst (λ (q : ℕ). q < 16) (one .slot) (h .place .slot) in
+      let used : uses p ≡ u = ap uses (sym (one .slot)) ∙ sym (h .used) ∙ one .used in
+      let on = use-goes-on t uses step ss f p (b .1) (other .slot) (other .used ∙ sym used) in
+      let early = subst (λ (q : ℕ). StillOpen (stepOf t step .tables) (objectSite (e .event .object)) q) (one .slot)
+      (nothing-after-quiesce-there t (e .event .slot) (e .event .object) step (held .sound) (h .means .operation (and-right (isOf p u k e) _ operation)) held) in
+      rw
+      (stamp-of t uses step e h)
+      (marked-later p u j _ (objectSite (e .event .object)) (stepOf t step .tables) (usesAfter t step uses) ss f slot (held-step t step held)
+      (record { ledgers = _; pledged = next; has = marked-at-once (stepOf t step .tables) _ next (objectSite (e .event .object)) p slot early })
+      (on .1 ∙ used)
+      (b .1)
+      letting))
+      (λ b. operation-first (stepOf t step .tables) _ (usesAfter t step uses) ss (held-step t step held) next b))
+      (ordered-joined (withUses uses (eventsOf t step)) _ e f o)
+
+  -- a letting go in the list, and an operation of the passage after it
+  letting-first :
+      (t : Tables) (ls : ℕ → Ledger) (uses : ℕ → ℕ) (ss : List Step) → Held t → Pledged t ls → InOrder f e (eventsFrom t uses ss)
+      → e .event .stamp < f .event .stamp
+  unfolding eventsFrom
+  letting-first t ls uses [] held pledged o = absurd o
+  letting-first t ls uses (step ∷ ss) held pledged o =
+      let one = named p u k e _ operation in
+      let other = named p u j f _ letting in
+      let frees = and-right (isOf p u j f) _ letting in
+      let next = pledged-after-step t step ls pledged in
+      ⊎-elim
+      (λ both. absurd (not-in-one-step t uses step held (ordered-second (withUses uses (eventsOf t step)) f e both) (ordered-first (withUses uses (eventsOf t step)) f e both)))
+      (⊎-elim
+      (λ b.
+      let h = happens t uses step f held (b .0) in
+      let slot : p < 16 = subst (λ (q : ℕ). q < 16) (other .slot) (h .place .slot) in
+      let used : uses p ≡ u = ap uses (sym (other .slot)) ∙ sym (h .used) ∙ other .used in
+      let on = use-goes-on t uses step ss e p (b .1) (one .slot) (one .used ∙ sym used) in
+      rw
+      (stamp-of t uses step f h)
+      (let-go-later p u k _ (objectSite (f .event .object)) (stepOf t step .tables) (usesAfter t step uses) ss e slot (held-step t step held)
+      (let-go-at-once p (f .event .object) t ls step slot pledged
+      (subst (λ (q : ℕ). isHolding t q (f .event .object) ≡ true) (other .slot) (h .means .held frees))
+      (subst (λ (q : ℕ). isHolding (stepOf t step .tables) q (f .event .object) ≡ false) (other .slot) (h .means .freed frees)))
+      (on .1 ∙ used)
+      (b .1)
+      operation))
+      (λ b. letting-first (stepOf t step .tables) _ (usesAfter t step uses) ss (held-step t step held) next b))
+      (ordered-joined (withUses uses (eventsOf t step)) _ f e o)
+
+-- ---- the theorem
+
+-- no event is both
+operation-or-letting : (p u k j : ℕ) (e : PassageEvent) → isOperation p u k e ≡ true → isLettingGo p u j e ≡ true → ⊥
+operation-or-letting p u k j e y z = go (e .event .kind) (and-right (isOf p u k e) _ y) (and-right (isOf p u j e) _ z)
+  where
+    go : (kind : EventKind) → operated kind ≡ true → frees kind ≡ true → ⊥
+    go EventKind.Took o f = false≢true o
+    go (EventKind.Operated write answered written) o f = false≢true f
+    go EventKind.Freed o f = false≢true o
+
+-- in every run from the start, in one use u of a slot p: every operation, of any object k, has a smaller stamp than every letting go, of any object j
+pub operation-before-letting-go :
+    {t₀ : Tables} → Started t₀ → (ss : List Step) (p u k j : ℕ) (e f : PassageEvent) → Among e (eventsUpTo t₀ ss) → Among f (eventsUpTo t₀ ss)
+    → isOperation p u k e ≡ true → isLettingGo p u j f ≡ true → e .event .stamp < f .event .stamp
+unfolding eventsUpTo
+operation-before-letting-go {t₀} fresh ss p u k j e f a b y z =
+    ⊎-elim
+    (λ same. absurd (operation-or-letting p u k j e y (subst (λ (x : PassageEvent). isLettingGo p u j x ≡ true) (sym same) z)))
+    (⊎-elim
+    (λ o. operation-first p u k j e f y z t₀ _ (λ q. 0) ss (held-started fresh) (pledged-started fresh) o)
+    (λ o. letting-first p u k j e f y z t₀ _ (λ q. 0) ss (held-started fresh) (pledged-started fresh) o))
+    (among-ordered (eventsFrom t₀ (λ q. 0) ss) e f a b)
