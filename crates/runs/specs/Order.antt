@@ -6,3 +6,4 @@ pub mod SweptLedger
 pub mod Listed
 pub mod Before
 pub mod Stamps
+pub mod Sides
