@@ -12,3 +12,4 @@ pub mod Operations
 pub mod Moves
 pub mod Commits
 pub mod Order
+pub mod Whole

@@ -101,6 +101,20 @@ module _ (t : Tables) (at : Places) (left : Seen) (z : Sized t) (h : Placed at) 
             (mail-after-other (at .slot) p (messageAt t (at .message)) (left .message) (x .mail) n i);
       })
 
+-- no accepted step of a list retires the slot: not the first, and none of the rest
+pub not-retired :
+    (p : ℕ) (t : Tables) (s : Step) (ss : List Step) → isRetired p (historyOf t (s ∷ ss)) ≡ false
+    → ((isAccepted (stepOf t s .answer) && retires p s) ≡ false) × (isRetired p (historyOf (stepOf t s .tables) ss) ≡ false)
+unfolding historyOf isRetired
+not-retired p t s ss r =
+    ⊎-elim
+    (λ e.
+    let both : (retires p s || isRetired p (historyOf (stepOf t s .tables) ss)) ≡ false = rw e at r in
+    let none : retires p s ≡ false = or-left _ _ both in
+    (rw none (and-false (isAccepted (stepOf t s .answer))), or-right (retires p s) _ both))
+    (λ e. (rw e, rw e at r))
+    (either (isAccepted (stepOf t s .answer)))
+
 -- ---- what is carried
 
 -- at these tables P is true of slot p, with ledgers that are as they must be
@@ -225,15 +239,9 @@ module _ (P : View → Ledger → Type 0) (Way : Trip → View → Type 0) (carr
       (λ e. rw (refused-leaves t step e) c)
       (either (isAccepted (stepOf t step .answer)))
 
-  -- no accepted step of the list retires the slot
   pub run-carried : (t : Tables) (ss : List Step) → Carried P p t → isRetired p (historyOf t ss) ≡ false → Carried P p (runOf t ss)
-  unfolding runOf historyOf isRetired
+  unfolding runOf
   run-carried t [] c r = c
   run-carried t (s ∷ ss) c r =
-      ⊎-elim
-      (λ e.
-      let both : (retires p s || isRetired p (historyOf (stepOf t s .tables) ss)) ≡ false = rw e at r in
-      let none : retires p s ≡ false = or-left _ _ both in
-      run-carried (stepOf t s .tables) ss (step-carried t s c (rw none (and-false (isAccepted (stepOf t s .answer))))) (or-right (retires p s) _ both))
-      (λ e. run-carried (stepOf t s .tables) ss (step-carried t s c (rw e)) (rw e at r))
-      (either (isAccepted (stepOf t s .answer)))
+      let each = not-retired p t s ss r in
+      run-carried (stepOf t s .tables) ss (step-carried t s c (each .0)) (each .1)

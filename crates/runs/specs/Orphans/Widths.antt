@@ -19,9 +19,13 @@ use Rattle.runs.specs.Walk.Steps.{seenAt}
 abbrev pub isAtRest : Tables → ℕ → Bool
 isAtRest t k = isUnheld (objectAt t k)
 
--- the width at rest once a step has left these tables: the object's value where nobody holds it, else what it was
+-- whether the object's value stands: no sweep of its holder would undo it. Today that is so where nobody holds it
+abbrev pub valueStands : Tables → ℕ → Bool
+valueStands t k = isAtRest t k
+
+-- the width at rest, the width that stands, once a step has left these tables: the object's value where that stands, else what it was
 abbrev pub restAfter : Tables → ℕ → ℕ → ℕ
-restAfter t k rest = cond (isAtRest t k) (objectAt t k .value) rest
+restAfter t k rest = cond (valueStands t k) (objectAt t k .value) rest
 
 unfoldable pub restFrom : Tables → List Step → ℕ → ℕ → ℕ
 restFrom t [] k rest = rest

@@ -1,0 +1,3 @@
+-- What the machine is for: holds are kept until release, a commit rests on what stands, and a pair of changes stands or falls together.
+pub mod Release
+pub mod RestsOn
