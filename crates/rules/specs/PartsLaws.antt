@@ -41,6 +41,14 @@ unheld-not-held p o e = rw (unheld-means o .0 e)
 pub held-not-unheld : (p : ℕ) (o : Object) → isHeldBy p o ≡ true → isUnheld o ≡ false
 held-not-unheld p o e = rw (held-means p o .0 e)
 
+-- somebody holds an object that is not unheld
+pub someone-holds : (o : Object) → isUnheld o ≡ false → (p : ℕ) × (isHeldBy p o ≡ true)
+someone-holds o = says (o .holder) refl
+  where
+    says : (x : Holder) → o .holder ≡ x → isUnheld o ≡ false → (p : ℕ) × (isHeldBy p o ≡ true)
+    says Holder.Nobody y e = absurd (true≢false (sym (unheld-means o .1 y) ∙ e))
+    says (Holder.Slot k) y e = (k, held-means k o .1 y)
+
 -- the object of an empty place is unheld, and so is the one past the end
 pub none-unheld : (isUnheld noObject ≡ true) × (isUnheld pastObject ≡ true)
 none-unheld = (refl, refl)
@@ -51,7 +59,7 @@ let-go-unheld value = refl
 
 -- ---- two who hold one object are one
 
--- let-go-one below rests on it, and of the theorems over runs listed-by-one (runs, Events/HeldByList)
+-- let-go-one below rests on it, and of the theorems over runs listed-by-one (runs, Events/HeldByList), never-on-both-sides (Order/Sides) and abort-is-whole (Whole/Whole)
 pub one-holder : (p q : ℕ) (o : Object) → isHeldBy p o ≡ true → isHeldBy q o ≡ true → p ≡ q
 one-holder p q o e f = let y : o .holder ≡ Holder.Slot p = held-means p o .0 e in eqb-true p q (rw y at f)
 
