@@ -1,5 +1,6 @@
 -- What a commit rests on and what it leaves: a passage that is over stays over, and a commit is whole.
 pub mod Vow
+pub mod VowLaws
 pub mod VowKept
 pub mod Pledged
 pub mod Since

@@ -27,7 +27,7 @@ use Rattle.runs.specs.Promises.Standing.{passage-has}
 use Rattle.runs.specs.Moves.Definitions.{OpenedFrom, Move, Turn}
 use Rattle.runs.specs.Moves.Steps.{move-of, turn-of}
 use Rattle.runs.specs.Commits.Vow.{RoundFor, RoundFits, Vow}
-use Rattle.runs.specs.Commits.VowKept.{none-not-one, one-not-two, active-runs}
+use Rattle.runs.specs.Commits.VowLaws.{none-not-one, one-not-two, active-runs}
 use Rattle.runs.specs.Commits.Pledged.{Pledged, pledged-run}
 use Rattle.runs.specs.Commits.Since.{Carries, run-carried, step-carried}
 

@@ -25,7 +25,7 @@ use Rattle.runs.specs.Times.View.{Ledger, mailOf, viewOf}
 use Rattle.runs.specs.Times.Store.{own-mail}
 use Rattle.runs.specs.Fits.Close.{one-says}
 use Rattle.runs.specs.Promises.Definitions.{isWord}
-use Rattle.runs.specs.Commits.VowKept.{prepare-says}
+use Rattle.runs.specs.Commits.VowLaws.{prepare-says}
 use Rattle.runs.specs.Commits.Pledged.{Pledged}
 use Rattle.runs.specs.Commits.Over.{ClosesCommit, over-after-step}
 

@@ -34,7 +34,7 @@ use Rattle.runs.specs.Operations.Delivered.{delivered-after-sent}
 use Rattle.runs.specs.Operations.Operated.{nothing-after-quiesce, quiesce-after-operated, station-of-operated}
 use Rattle.runs.specs.Operations.LetGo.{let-go-by}
 use Rattle.runs.specs.Commits.Vow.{Vow}
-use Rattle.runs.specs.Commits.VowKept.{prepare-says, committed-tells}
+use Rattle.runs.specs.Commits.VowLaws.{prepare-says, committed-tells}
 use Rattle.runs.specs.Commits.Pledged.{Pledged, pledged-after-step}
 use Rattle.runs.specs.Commits.Since.{Carried}
 use Rattle.runs.specs.Commits.Word.{WordOf, word-of, word-seen, committed-after-word}
@@ -45,7 +45,6 @@ use Rattle.runs.specs.Order.SweptLedger.{ReleasedBy, sweep-released}
 -- ---- a visit that is still open is not quiet
 
 module _ (t : Tables) (ls : ℕ → Ledger) (k : Pledged t ls) (s p : ℕ) (slot : p < 16) (early : StillOpen t s p) where
-
   hold : Holds (viewOf t p) (ls p)
   hold = k .kept .slots p slot
 

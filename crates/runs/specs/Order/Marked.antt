@@ -27,7 +27,7 @@ use Rattle.runs.specs.Kept.Masks.{answered-other, nobody-answers}
 use Rattle.runs.specs.Moves.Definitions.{isAnswer, OpenedFrom, Move, Turn}
 use Rattle.runs.specs.Moves.Laws.{sites-after, made-at-unseen, turned-unmade, quiesce-after, isCrash, quiesce-turned, clock-after-move}
 use Rattle.runs.specs.Commits.Vow.{Vow}
-use Rattle.runs.specs.Commits.VowKept.{prepare-says}
+use Rattle.runs.specs.Commits.VowLaws.{prepare-says}
 use Rattle.runs.specs.Commits.Since.{Carries}
 use Rattle.runs.specs.Order.Gone.{seen-used}
 
