@@ -2,3 +2,4 @@
 pub mod Release
 pub mod RestsOn
 pub mod Whole
+pub mod CommitIsWhole

@@ -172,12 +172,12 @@ let-go-at-once p k t ls step slot pledged held free =
         }
 
 -- the call that an operation delivers
-record Called (t : Tables) (p k : ℕ) (step : Step) : Type 0 where
-  call : Call
-  body : mailNamed t step .body ≡ Body.Call call
-  own : slotOf (mailNamed t step .handle) ≡ p
+pub record Called (t : Tables) (p k : ℕ) (step : Step) : Type 0 where
+  pub call : Call
+  pub body : mailNamed t step .body ≡ Body.Call call
+  pub own : slotOf (mailNamed t step .handle) ≡ p
 
-called-by : (t : Tables) (p k : ℕ) (step : Step) → operates t p k step ≡ true → Called t p k step
+pub called-by : (t : Tables) (p k : ℕ) (step : Step) → operates t p k step ≡ true → Called t p k step
 called-by t p k step e = go (mailNamed t step .body) refl (and-right (eqb (slotOf (mailNamed t step .handle)) p) _ named)
   where
     named : (eqb (slotOf (mailNamed t step .handle)) p && callsFor k (mailNamed t step .body)) ≡ true

@@ -87,7 +87,7 @@ module _ (p k width : ℕ) (slot : p < 16) where
 -- ---- at the commit
 
 -- a site that has seen a passage whose commit round is closed has answered it, so its visit is there, and prepared
-bound-at-commit :
+pub bound-at-commit :
     (t : Tables) (ls : ℕ → Ledger) (p s : ℕ) → p < 16 → Pledged t ls → ClosesCommit (passageAt t p) → ls p s .seen ≡ true
     → (visitAt t s p .there ≡ true) × (visitAt t s p .prepared ≡ true)
 bound-at-commit t ls p s slot k closes seen =
