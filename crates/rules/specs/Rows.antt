@@ -46,11 +46,8 @@ abbrev pub holderNumber : Holder → ℕ
 holderNumber Holder.Nobody = 16
 holderNumber (Holder.Slot p) = p
 
-abbrev pub nobody : ℕ
-nobody = 16
-
-abbrev pub holder : ℕ → ℕ → Fact
-holder k = one (λ t. holderNumber (objectAt t k .holder))
+abbrev pub holder : ℕ → Holder → Fact
+holder k h = one (λ t. holderNumber (objectAt t k .holder)) (holderNumber h)
 
 -- the value before the holder took the object
 abbrev pub before : ℕ → ℕ → Fact
@@ -63,23 +60,8 @@ statusNumber Status.Committing = 2
 statusNumber Status.Aborted = 3
 statusNumber Status.Committed = 4
 
-abbrev pub free : ℕ
-free = 0
-
-abbrev pub active : ℕ
-active = 1
-
-abbrev pub committing : ℕ
-committing = 2
-
-abbrev pub aborted : ℕ
-aborted = 3
-
-abbrev pub committed : ℕ
-committed = 4
-
-abbrev pub status : ℕ → ℕ → Fact
-status p = one (λ t. statusNumber (passageAt t p .status))
+abbrev pub status : ℕ → Status → Fact
+status p x = one (λ t. statusNumber (passageAt t p .status)) (statusNumber x)
 
 abbrev pub generation : ℕ → ℕ → Fact
 generation p = one (λ t. passageAt t p .generation)
@@ -90,11 +72,11 @@ phaseNumber Phase.One = 1
 phaseNumber Phase.Two = 2
 
 -- the round of a slot: its number and its phase
-abbrev pub round : ℕ → ℕ → ℕ → Fact
+abbrev pub round : ℕ → ℕ → Phase → Fact
 round p n phase =
     record {
       reads = λ t. passageAt t p .round .number ∷ phaseNumber (passageAt t p .round .phase) ∷ [];
-      says = n ∷ phase ∷ [];
+      says = n ∷ phaseNumber phase ∷ [];
     }
 
 -- the visit of a slot at a site: quiesce, release, round, calls received
@@ -109,8 +91,8 @@ visit s p quiesce release number received =
     }
 
 -- no visit of the slot at the site
-abbrev pub noVisit : ℕ → ℕ → Fact
-noVisit s p = one (λ t. oneIf (visitAt t s p .there)) 0
+abbrev pub unvisited : ℕ → ℕ → Fact
+unvisited s p = one (λ t. oneIf (visitAt t s p .there)) 0
 
 -- 1 for a visit with the mark, 0 for one without
 abbrev pub prepared : ℕ → ℕ → ℕ → Fact
