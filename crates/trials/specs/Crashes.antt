@@ -1,9 +1,12 @@
 -- The second table of cases, crashes: a station that is down, and a visit that is dead.
 -- The answers were worked out by hand from document 01; a clock beside a line is that of the acting station after it. Assumes nothing.
 use mathlib.Core.Path.{_≡_, refl}
+use mathlib.Core.Bool.{true, false}
 use mathlib.Core.List.{List, [], _∷_, _++_, map}
-use Rattle.trials.specs.Types.{Holder, Phase, Status, Step}
-use Rattle.rules.specs.Rows.{Row, Line, _gives_, _refusedBy_, lines, clock, up, width, holder, status, generation, round, visit, unvisited, prepared, dead, mail, found, wanted}
+use Rattle.rules.specs.Tables.{start, freeSlot, putPassage, putVisit}
+use Rattle.rules.specs.Parts.{withHome, withStatus, quieted, newVisit}
+use Rattle.trials.specs.Types.{Holder, Phase, Status, Tables, Step}
+use Rattle.rules.specs.Rows.{Row, Line, _gives_, _refusedBy_, linesOn, lines, clock, up, width, holder, status, generation, round, visit, unvisited, prepared, dead, mail, found, wanted}
 
 -- home 2, slot 6: station 6 goes down; 4 until it is up again, then its visit is dead, to calls and to every round but a terminate
 abbrev pub stationDown : List Line
@@ -100,6 +103,27 @@ homeUp =
     ∷ Step.Retire 2 gives 0
     ∷ []
 
+-- handed in: slot 3 is active at home 2 with a dead visit there whose Q is still to come, and a live one at station 4
+abbrev pub deadInTime : Tables
+deadInTime =
+    putVisit
+    (putVisit
+    (putPassage start 3 (withHome (withStatus (freeSlot 0) Status.Active) 2))
+    2
+    3
+    (quieted (newVisit 500 600 0) 500 false true))
+    4
+    3
+    (newVisit 500 600 0)
+
+-- a call neither leaves a dead visit nor reaches it, for the mark alone
+abbrev pub deadInTimeCalls : List Line
+deadInTimeCalls =
+    Step.Invoke 3 2 0 8 0 refusedBy 8
+    ∷ Step.Invoke 3 4 0 9 0 gives 0  -- clock 4: 1
+    ∷ Step.Deliver 0 refusedBy 8
+    ∷ []
+
 abbrev pub crashes : List Row
 crashes =
     -- a crash: what stands while the station is down, and then
@@ -130,6 +154,8 @@ crashes =
     ∷ unvisited 5 2
     ∷ unvisited 5 3
     ∷ [])
+    -- a dead visit before its Q
+    ∷ linesOn deadInTime deadInTimeCalls (clock 2 0 ∷ clock 4 1 ∷ visit 2 3 500 600 0 0 ∷ dead 2 3 1 ∷ mail 0 1 ∷ [])
     ∷ []
 
 -- every crash is as document 01 says
