@@ -3,64 +3,11 @@
 -- A sheet row has a whole sheet and the bytes of its listing. Assumes nothing.
 use Prim.Native.Nat.{ℕ}
 use mathlib.Core.Path.{_≡_, refl}
-use mathlib.Core.List.{List, [], _∷_, _++_, map}
+use mathlib.Core.List.{List, [], _∷_, map}
 use lib.ListN.{replicate}
-use Rattle.rules.specs.Types.{Tables, Step, Answer}
-use Rattle.rules.specs.Tables.{start, siteAt, objectAt}
-use Rattle.rules.specs.Loops.{joined, everyUpTo, someUpTo, sumUpTo, mostUpTo, firstUpTo}
-use Rattle.rules.specs.Ranges.{countsInRange, roundInRange, inRange}
-use Rattle.rules.specs.Answers.{firstOf, answerNumber, answerValue}
-use Rattle.rules.specs.Parts.{sentTo, isClosed, largestQuiesce, answerCount}
-use Rattle.rules.specs.Stations.{tickOf, sweepOf, sweptSlot, crashOf, crashedSlot, recoverOf}
-use Rattle.rules.specs.Passages.{beginOf, abortOf, retireOf}
-use Rattle.rules.specs.Rounds.{openOf, refreshOf, terminateOf, prepareOf, askOf, closeOf, tellOf}
-use Rattle.rules.specs.Calls.{invokeOf, emptyOf, deliverCallOf, deliverPhaseOneOf, deliverPhaseTwoOf, deliverAnswerOf, deliverBodyOf, dropOf}
-use Rattle.rules.specs.Machine.{lowestEmpty, placesOf, remains, decideOf, stored, headOf, turnOf, turnsUpTo, stepInRangeOf, stepOf}
-use Rattle.rules.specs.Record.{stepOfFields, stepOfRecord, recordOfStep, recordInRangeOf, stepRecordOf}
-use Rattle.rules.specs.Runs.{recordAnswersOf, runRecordsOf}
-use Rattle.rules.specs.Sheet.{sheetAnswer, sheetRecords}
-use Rattle.rules.specs.Listing.{spelt, lineOf, printedUpTo, listingOf}
-
--- what a row says of the tables: the clock of a site, the value of an object
-pub data Fact : Type 0 where
-  clock : ℕ → ℕ → Fact
-  width : ℕ → ℕ → Fact
-
--- a run has the records, a number and a value for each, and facts; a sheet its bytes, and those of its listing
-pub data Row : Type 0 where
-  run : List (List ℕ) → List (List ℕ) → List Fact → Row
-  sheet : List ℕ → List ℕ → Row
-
-abbrev pub accepted : ℕ → List ℕ
-accepted value = 0 ∷ value ∷ []
-
-abbrev pub refused : ℕ → List ℕ
-refused number = number ∷ 0 ∷ []
-
--- ---- what the definitions give for a row, and what the row wants, as lists of numbers
-
-abbrev pub answerPair : Answer → List ℕ
-answerPair a = answerNumber a ∷ answerValue a ∷ []
-
-abbrev pub factFound : Tables → Fact → ℕ
-factFound t (clock s n) = siteAt t s .clock
-factFound t (width k n) = objectAt t k .value
-
-abbrev pub factWanted : Fact → ℕ
-factWanted (clock s n) = n
-factWanted (width k n) = n
-
-pub found : Row → List ℕ
-unfolding start everyUpTo someUpTo sumUpTo mostUpTo firstUpTo countsInRange roundInRange inRange firstOf sentTo isClosed largestQuiesce answerCount tickOf sweepOf sweptSlot crashOf crashedSlot recoverOf beginOf abortOf retireOf openOf refreshOf terminateOf prepareOf askOf closeOf tellOf invokeOf emptyOf deliverCallOf deliverPhaseOneOf deliverPhaseTwoOf deliverAnswerOf deliverBodyOf dropOf lowestEmpty placesOf remains decideOf stored headOf turnOf turnsUpTo stepInRangeOf stepOf stepOfFields stepOfRecord recordOfStep recordInRangeOf stepRecordOf recordAnswersOf runRecordsOf sheetAnswer sheetRecords spelt lineOf printedUpTo listingOf
-found (run records says facts) =
-    joined (map answerPair (recordAnswersOf start records)) ++ map (factFound (runRecordsOf start records)) facts
-found (sheet bytes listing) = listingOf bytes
-
-pub wanted : Row → List ℕ
-wanted (run records says facts) = joined says ++ map factWanted facts
-wanted (sheet bytes listing) = listing
-
--- ---- the table
+use Rattle.rules.specs.Types.{Step}
+use Rattle.rules.specs.Record.{recordOfStep}
+use Rattle.rules.specs.Rows.{Row, clock, width, run, sheet, accepted, refused, found, wanted}
 
 abbrev pub begins : ℕ → ℕ → List ℕ
 begins q r = recordOfStep (Step.Begin 0 0 q r)

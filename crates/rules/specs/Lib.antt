@@ -42,4 +42,5 @@ pub mod Sheet
 pub mod SheetLaws
 pub mod Listing
 pub mod ListingLaws
+pub mod Rows
 pub mod Cases

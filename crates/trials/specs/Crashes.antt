@@ -1,0 +1,164 @@
+-- The second table of cases, crashes: a station that is down, and a visit that is dead.
+-- The answers were worked out by hand from document 01; a clock beside a line is that of the acting station after it. Assumes nothing.
+use mathlib.Core.Path.{_≡_, refl}
+use mathlib.Core.Bool.{true, false}
+use mathlib.Core.List.{List, [], _∷_, _++_, map}
+use Rattle.rules.specs.Tables.{start, freeSlot, putPassage, putVisit}
+use Rattle.rules.specs.Parts.{withHome, withStatus, quieted, newVisit}
+use Rattle.trials.specs.Types.{Holder, Phase, Status, Tables, Step}
+use Rattle.rules.specs.Rows.{Row, Line, _gives_, _refusedBy_, linesOn, lines, clock, up, width, holder, status, generation, round, visit, unvisited, prepared, dead, mail, found, wanted}
+
+-- home 2, slot 6: station 6 goes down; 4 until it is up again, then its visit is dead, to calls and to every round but a terminate
+abbrev pub stationDown : List Line
+stationDown =
+    Step.Begin 2 6 300 400 gives 6  -- clock 2: 1
+    ∷ Step.Invoke 6 2 1 25 7777 gives 0  -- 2
+    ∷ Step.Deliver 0 gives 0  -- clock 6: 3
+    ∷ Step.Invoke 6 2 0 27 0 gives 0  -- clock 2: 3
+    ∷ Step.Crash 6 gives 0  -- clock 6: 4
+    ∷ Step.Deliver 0 refusedBy 4
+    ∷ Step.Tick 6 5 refusedBy 4
+    ∷ Step.Sweep 6 refusedBy 4
+    ∷ Step.Crash 6 refusedBy 4
+    ∷ Step.Begin 6 1 300 400 refusedBy 4
+    ∷ Step.Invoke 6 6 0 25 0 refusedBy 4
+    ∷ Step.Refresh 6 500 600 gives 1  -- clock 2: 4
+    ∷ Step.Ask 6 6 gives 1  -- 5
+    ∷ Step.Deliver 1 refusedBy 4
+    ∷ Step.Recover 6 gives 0  -- clock 6: 5
+    ∷ Step.Recover 6 refusedBy 5
+    ∷ []
+
+abbrev pub visitDead : List Line
+visitDead =
+    Step.Deliver 0 refusedBy 8
+    ∷ Step.Deliver 1 refusedBy 8
+    ∷ Step.Prepare 6 gives 2  -- clock 2: 6
+    ∷ Step.Ask 6 6 gives 2  -- 7
+    ∷ Step.Deliver 2 refusedBy 8
+    ∷ Step.Close 6 refusedBy 12
+    ∷ Step.Abort 6 gives 0  -- 8
+    ∷ Step.Terminate 6 gives 3  -- 9
+    ∷ Step.Ask 6 6 gives 3  -- 10
+    ∷ Step.Deliver 3 gives 0  -- clock 6: 11
+    ∷ Step.Deliver 3 gives 0  -- clock 2: 12
+    -- of the two calls one was never received
+    ∷ Step.Close 6 refusedBy 12
+    ∷ []
+
+-- home 3, slot 2: a station that goes down between a refresh's two phases does not take the second, so its Q is not raised
+abbrev pub refreshTooLate : List Line
+refreshTooLate =
+    Step.Begin 3 2 50 60 gives 2  -- clock 3: 1
+    ∷ Step.Invoke 2 3 0 19 0 gives 0  -- 2
+    ∷ Step.Deliver 0 gives 0  -- clock 4: 3
+    ∷ Step.Refresh 2 150 160 gives 1  -- clock 3: 3
+    ∷ Step.Ask 2 4 gives 0  -- 4
+    ∷ Step.Deliver 0 gives 0  -- clock 4: 5
+    ∷ Step.Deliver 0 gives 0  -- clock 3: 6
+    ∷ Step.Close 2 gives 2  -- 7
+    ∷ Step.Tell 2 4 gives 0  -- 8
+    ∷ Step.Crash 4 gives 0  -- clock 4: 6
+    ∷ Step.Recover 4 gives 0  -- 7
+    ∷ Step.Deliver 0 refusedBy 8
+    ∷ Step.Invoke 2 4 0 19 0 refusedBy 8
+    ∷ []
+
+-- station 5 is home of slot 2, which is committing, and has given slot 3, of home 1, its promise; then it goes down
+abbrev pub homeDown : List Line
+homeDown =
+    Step.Begin 5 2 300 400 gives 2  -- clock 5: 1
+    ∷ Step.Begin 1 3 300 400 gives 3  -- clock 1: 1
+    ∷ Step.Invoke 3 1 1 20 11111 gives 0  -- 2
+    ∷ Step.Deliver 0 gives 0  -- clock 5: 3
+    ∷ Step.Prepare 3 gives 1  -- clock 1: 3
+    ∷ Step.Ask 3 5 gives 0  -- 4
+    ∷ Step.Deliver 0 gives 0  -- clock 5: 5
+    ∷ Step.Prepare 2 gives 1  -- 6
+    ∷ Step.Crash 5 gives 0  -- 7
+    ∷ []
+
+-- slot 2 can only be terminated, and slot 3 commits
+abbrev pub homeUp : List Line
+homeUp =
+    Step.Refresh 2 500 600 refusedBy 4
+    ∷ Step.Terminate 2 refusedBy 4
+    ∷ Step.Prepare 2 refusedBy 4
+    ∷ Step.Ask 2 1 refusedBy 4
+    ∷ Step.Close 2 refusedBy 4
+    ∷ Step.Tell 2 1 refusedBy 4
+    ∷ Step.Abort 2 refusedBy 4
+    ∷ Step.Deliver 0 gives 0  -- clock 1: 6
+    ∷ Step.Close 3 gives 2  -- 7
+    ∷ Step.Tell 3 5 gives 0  -- 8
+    ∷ Step.Deliver 0 refusedBy 4
+    ∷ Step.Recover 5 gives 0  -- clock 5: 8
+    ∷ Step.Close 2 refusedBy 5
+    ∷ Step.Invoke 2 5 0 20 0 refusedBy 8
+    ∷ Step.Terminate 2 gives 2  -- 9
+    ∷ Step.Deliver 0 gives 0  -- 10
+    ∷ Step.Retire 3 gives 0
+    ∷ Step.Close 2 gives 1  -- 11
+    ∷ Step.Sweep 5 gives 1  -- 12
+    ∷ Step.Retire 2 gives 0
+    ∷ []
+
+-- handed in: slot 3 is active at home 2 with a dead visit there whose Q is still to come, and a live one at station 4
+abbrev pub deadInTime : Tables
+deadInTime =
+    putVisit
+    (putVisit
+    (putPassage start 3 (withHome (withStatus (freeSlot 0) Status.Active) 2))
+    2
+    3
+    (quieted (newVisit 500 600 0) 500 false true))
+    4
+    3
+    (newVisit 500 600 0)
+
+-- a call neither leaves a dead visit nor reaches it, for the mark alone
+abbrev pub deadInTimeCalls : List Line
+deadInTimeCalls =
+    Step.Invoke 3 2 0 8 0 refusedBy 8
+    ∷ Step.Invoke 3 4 0 9 0 gives 0  -- clock 4: 1
+    ∷ Step.Deliver 0 refusedBy 8
+    ∷ []
+
+abbrev pub crashes : List Row
+crashes =
+    -- a crash: what stands while the station is down, and then
+    lines (stationDown ++ visitDead)
+    (clock 2 12 ∷ clock 6 11 ∷ up 6 1 ∷ visit 6 6 4 400 3 1 ∷ dead 6 6 1 ∷ prepared 6 6 0 ∷ visit 2 6 6 600 3 0 ∷ dead 2 6 0
+    ∷ prepared 2 6 0
+    ∷ width 25 7777
+    ∷ holder 25 (Holder.Slot 6)
+    ∷ status 6 Status.Aborted
+    ∷ round 6 3 Phase.One
+    ∷ mail 0 1
+    ∷ mail 3 0
+    ∷ [])
+    -- a dead visit takes no phase 2 of a refresh
+    ∷ lines refreshTooLate (clock 3 8 ∷ clock 4 7 ∷ visit 4 2 6 160 1 1 ∷ dead 4 2 1 ∷ visit 3 2 150 160 1 0 ∷ mail 0 1 ∷ [])
+    -- a home goes down: its own passage is aborted, a promise to another one stands
+    ∷ lines homeDown
+    (clock 5 7 ∷ up 5 0 ∷ status 2 Status.Aborted ∷ round 2 1 Phase.None ∷ visit 5 2 6 400 1 0 ∷ prepared 5 2 0 ∷ dead 5 2 1
+    ∷ visit 5 3 5 400 1 1
+    ∷ prepared 5 3 1
+    ∷ dead 5 3 0
+    ∷ status 3 Status.Committing
+    ∷ [])
+    -- and comes up again
+    ∷ lines (homeDown ++ homeUp)
+    (clock 5 12 ∷ clock 1 8 ∷ up 5 1 ∷ width 20 11111 ∷ holder 20 Holder.Nobody ∷ status 2 Status.Free ∷ generation 2 1
+    ∷ generation 3 1
+    ∷ unvisited 5 2
+    ∷ unvisited 5 3
+    ∷ [])
+    -- a dead visit before its Q
+    ∷ linesOn deadInTime deadInTimeCalls (clock 2 0 ∷ clock 4 1 ∷ visit 2 3 500 600 0 0 ∷ dead 2 3 1 ∷ mail 0 1 ∷ [])
+    ∷ []
+
+-- every crash is as document 01 says
+pub crashes-hold : map found crashes ≡ map wanted crashes
+unfolding found wanted
+crashes-hold = refl

@@ -1,0 +1,9 @@
+-- The second table of cases, a file for each subject, and the claim over all of it.
+pub mod Types
+pub mod Commits
+pub mod Undone
+pub mod Crashes
+pub mod Mail
+pub mod Refusals
+pub mod Sheets
+pub mod Trials

@@ -1,0 +1,112 @@
+-- The second table of cases, mail: what comes late, and a full message table.
+-- The answers were worked out by hand from document 01; a clock beside a line is that of the acting station after it. Assumes nothing.
+use Prim.Native.Nat.{ℕ, zero, suc}
+use mathlib.Core.Path.{_≡_, refl}
+use mathlib.Core.List.{List, [], _∷_, _++_, map}
+use Rattle.trials.specs.Types.{Phase, Status, Step}
+use Rattle.rules.specs.Rows.{Row, Line, _gives_, _refusedBy_, lines, clock, width, status, round, visit, sent, mail, found, wanted}
+
+-- home 4, slot 8: of two calls to station 6 one is delivered after the answer, so only the next round closes
+abbrev pub lateCall : List Line
+lateCall =
+    Step.Begin 4 8 100 200 gives 8  -- clock 4: 1
+    ∷ Step.Invoke 8 4 1 26 5005 gives 0  -- 2
+    ∷ Step.Invoke 8 4 0 26 0 gives 1  -- 3
+    ∷ Step.Deliver 0 gives 0  -- clock 6: 3
+    ∷ Step.Refresh 8 300 400 gives 1  -- clock 4: 4
+    ∷ Step.Ask 8 6 gives 0  -- 5
+    ∷ Step.Deliver 0 gives 0  -- clock 6: 6
+    ∷ Step.Deliver 0 gives 0  -- clock 4: 7
+    ∷ Step.Close 8 refusedBy 12
+    ∷ Step.Deliver 1 gives 5005  -- clock 6: 7
+    ∷ Step.Close 8 refusedBy 12
+    ∷ Step.Ask 8 6 gives 0  -- clock 4: 8
+    -- the station has answered this round
+    ∷ Step.Deliver 0 refusedBy 9
+    -- earlier times than the last: the later ones stay
+    ∷ Step.Refresh 8 90 350 gives 2  -- 9
+    ∷ Step.Ask 8 6 gives 1  -- 10
+    ∷ Step.Deliver 1 gives 0  -- clock 6: 11
+    ∷ Step.Deliver 0 refusedBy 9
+    ∷ Step.Deliver 1 gives 0  -- clock 4: 12
+    ∷ Step.Close 8 gives 2  -- 13
+    ∷ Step.Drop 0 gives 0
+    ∷ []
+
+-- home 1, slot 10: an answer of the round before, a word of the round before, and a word after a terminate, each refused by 9
+abbrev pub lateRound : List Line
+lateRound =
+    Step.Begin 1 10 100 200 gives 10  -- clock 1: 1
+    ∷ Step.Invoke 10 1 0 12 0 gives 0  -- 2
+    ∷ Step.Deliver 0 gives 0  -- clock 3: 3
+    ∷ Step.Refresh 10 150 250 gives 1  -- clock 1: 3
+    ∷ Step.Ask 10 3 gives 0  -- 4
+    ∷ Step.Deliver 0 gives 0  -- clock 3: 5
+    ∷ Step.Refresh 10 160 260 gives 2  -- clock 1: 5
+    ∷ Step.Deliver 0 refusedBy 9
+    ∷ Step.Drop 0 gives 0
+    ∷ Step.Ask 10 3 gives 0  -- 6
+    ∷ Step.Deliver 0 gives 0  -- clock 3: 7
+    ∷ Step.Deliver 0 gives 0  -- clock 1: 8
+    ∷ Step.Close 10 gives 2  -- 9
+    ∷ Step.Tell 10 3 gives 0  -- 10
+    ∷ Step.Refresh 10 170 270 gives 3  -- 11
+    ∷ Step.Ask 10 3 gives 1  -- 12
+    ∷ Step.Deliver 1 gives 0  -- clock 3: 13
+    ∷ Step.Deliver 0 refusedBy 9
+    ∷ Step.Abort 10 gives 0  -- clock 1: 13
+    -- the round has its number, and is in no phase
+    ∷ Step.Deliver 1 refusedBy 9
+    ∷ Step.Terminate 10 gives 4  -- 14
+    ∷ Step.Ask 10 3 gives 2  -- 15
+    ∷ Step.Deliver 2 gives 0  -- clock 3: 16
+    ∷ Step.Deliver 0 refusedBy 9
+    ∷ []
+
+-- the first n of these calls, each in the next message slot
+abbrev pub callsUpTo : ℕ → List Line
+callsUpTo zero = []
+callsUpTo (suc n) = callsUpTo n ++ (Step.Invoke 14 5 0 1 0 gives n ∷ [])
+
+-- home 5, slot 14: 32 calls to station 0 fill the table; a 33rd and a round's message are refused by 11 until a slot is empty
+abbrev pub fullTable : List Line
+fullTable =
+    (Step.Begin 5 14 1000 1010 gives 14 ∷ [])  -- clock 5: 1
+    ++ callsUpTo 32  -- 2 to 33
+    ++ (Step.Invoke 14 5 0 1 0 refusedBy 11 ∷ Step.Refresh 14 2000 2010 gives 1  -- 34
+    ∷ Step.Ask 14 0 refusedBy 11
+    ∷ Step.Deliver 31 gives 0  -- clock 0: 34
+    ∷ Step.Ask 14 0 gives 31  -- clock 5: 35
+    ∷ Step.Drop 17 gives 0
+    ∷ Step.Invoke 14 5 1 1 9999 gives 17  -- 36
+    ∷ Step.Deliver 17 gives 0  -- clock 0: 37
+    ∷ [])
+
+abbrev pub mails : List Row
+mails =
+    -- two calls to one station, one delivered late
+    lines
+    lateCall
+    (clock 4 13 ∷ clock 6 11 ∷ visit 4 8 100 400 2 0 ∷ visit 6 8 100 400 2 2
+    ∷ sent 4 8 (0 ∷ 0 ∷ 0 ∷ 0 ∷ 0 ∷ 0 ∷ 2 ∷ 0 ∷ [])
+    ∷ round 8 2 Phase.Two
+    ∷ width 26 5005
+    ∷ mail 0 0
+    ∷ [])
+    -- what is of another round than the open one
+    ∷ lines lateRound
+    (clock 1 15 ∷ clock 3 16 ∷ visit 3 10 16 270 4 1 ∷ round 10 4 Phase.One ∷ status 10 Status.Aborted ∷ mail 0 1 ∷ [])
+    -- message 32 and 33
+    ∷ lines fullTable
+    (clock 5 36 ∷ clock 0 37 ∷ sent 5 14 (33 ∷ 0 ∷ 0 ∷ 0 ∷ 0 ∷ 0 ∷ 0 ∷ 0 ∷ []) ∷ visit 0 14 1000 1010 0 2
+    ∷ visit 5 14 1000 2010 1 0
+    ∷ width 1 9999
+    ∷ mail 17 0
+    ∷ mail 31 1
+    ∷ [])
+    ∷ []
+
+-- every message is as document 01 says
+pub mails-hold : map found mails ≡ map wanted mails
+unfolding found wanted
+mails-hold = refl

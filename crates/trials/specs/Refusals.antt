@@ -1,0 +1,237 @@
+-- The second table of cases, refusals: a field that no step has, a field out of range, a wrong state, the last clock, the full count, tables out of range.
+-- The answers were worked out by hand from document 01; a clock beside a line is that of the acting station after it. Assumes nothing.
+use Prim.Native.Nat.{ℕ}
+use mathlib.Core.Bool.{true, false}
+use mathlib.Core.Path.{_≡_, refl}
+use mathlib.Core.List.{List, [], _∷_, _++_, map}
+use lib.ListN.{replicate, set}
+use Rattle.rules.specs.Tables.{start, noCounts, noRound, putSite, putPassage, putVisit}
+use Rattle.rules.specs.Record.{recordOfStep}
+use Rattle.rules.specs.Rows.{Row, Line, _gives_, _refusedBy_, runOn, run, accepted, refused, linesOn, lines, clock, status, generation, visit, sent, found, wanted}
+use Rattle.trials.specs.Types.{Holder, Kind, Phase, Status, Tables, Step}
+
+-- ---- 1, byte by byte: "code unknown, or an unnamed field isn't 0"
+
+-- sixteen bytes, of which the last eight are 0
+abbrev pub bytes : ℕ → ℕ → ℕ → ℕ → ℕ → ℕ → ℕ → ℕ → List ℕ
+bytes code a b c h i y z = code ∷ a ∷ b ∷ c ∷ h ∷ i ∷ y ∷ z ∷ replicate 8 0
+
+-- sweep of station 3 with a stray byte in each unnamed field, then with none; before it, two codes that are unknown
+abbrev pub strayBytes : List (List ℕ)
+strayBytes =
+    bytes 0 3 0 0 0 0 0 0 ∷ bytes 255 3 0 0 0 0 0 0 ∷ bytes 13 3 1 0 0 0 0 0 ∷ bytes 13 3 0 1 0 0 0 0
+    ∷ bytes 13 3 0 0 1 0 0 0
+    ∷ bytes 13 3 0 0 0 1 0 0
+    ∷ bytes 13 3 0 0 0 0 1 0
+    ∷ bytes 13 3 0 0 0 0 0 1
+    ∷ (13 ∷ 3 ∷ (replicate 6 0 ++ (1 ∷ replicate 7 0)))
+    ∷ (13 ∷ 3 ∷ (replicate 13 0 ++ (1 ∷ [])))
+    ∷ bytes 13 3 0 0 0 0 0 0
+    ∷ []
+
+-- ---- 2, each with a number one too high, or a read with a value; then the highest that is in range
+
+abbrev pub wideFields : List Line
+wideFields =
+    Step.Tick 8 1 refusedBy 2
+    ∷ Step.Tick 3 1000001 refusedBy 2
+    ∷ Step.Begin 8 15 100 200 refusedBy 2
+    ∷ Step.Begin 3 16 100 200 refusedBy 2
+    ∷ Step.Begin 3 15 999999990 1000000001 refusedBy 2
+    ∷ Step.Begin 3 15 999999990 1000000000 gives 15  -- clock 3: 1
+    ∷ Step.Invoke 15 3 2 31 0 refusedBy 2
+    ∷ Step.Invoke 15 3 0 32 0 refusedBy 2
+    ∷ Step.Invoke 15 3 0 31 1 refusedBy 2
+    ∷ Step.Invoke 15 3 1 31 1000001 refusedBy 2
+    ∷ Step.Invoke 15 8 0 31 0 refusedBy 2
+    ∷ Step.Invoke 4096 3 0 31 0 refusedBy 2
+    ∷ Step.Refresh 15 300 299 refusedBy 2
+    ∷ Step.Refresh 15 300 1000000001 refusedBy 2
+    ∷ Step.Prepare 4096 refusedBy 2
+    ∷ Step.Abort 4096 refusedBy 2
+    ∷ Step.Abort 4095 refusedBy 3
+    ∷ Step.Retire 4096 refusedBy 2
+    ∷ Step.Ask 15 8 refusedBy 2
+    ∷ Step.Tell 15 8 refusedBy 2
+    ∷ Step.Deliver 32 refusedBy 2
+    ∷ Step.Drop 32 refusedBy 2
+    ∷ Step.Drop 31 refusedBy 3
+    ∷ Step.Sweep 8 refusedBy 2
+    ∷ Step.Crash 8 refusedBy 2
+    ∷ Step.Recover 8 refusedBy 2
+    ∷ Step.Tick 7 1000000 gives 1000000
+    ∷ []
+
+-- ---- 5, home 6, slot 7: active, committing, committed
+
+abbrev pub wrongStates : List Line
+wrongStates =
+    Step.Begin 6 7 100 200 gives 7  -- clock 6: 1
+    ∷ Step.Begin 2 7 100 200 refusedBy 5
+    ∷ Step.Ask 7 2 refusedBy 5
+    ∷ Step.Terminate 7 refusedBy 5
+    ∷ Step.Retire 7 refusedBy 5
+    ∷ Step.Prepare 7 gives 1  -- 2
+    ∷ Step.Refresh 7 300 400 refusedBy 5
+    ∷ Step.Ask 7 6 refusedBy 5
+    ∷ Step.Tell 7 2 refusedBy 5
+    -- a prepare may follow a prepare
+    ∷ Step.Prepare 7 gives 2  -- 3
+    ∷ Step.Close 7 gives 1  -- 4
+    ∷ Step.Prepare 7 refusedBy 5
+    ∷ Step.Abort 7 refusedBy 5
+    ∷ Step.Close 7 refusedBy 5
+    ∷ Step.Tell 7 6 refusedBy 5
+    ∷ Step.Tell 7 2 refusedBy 5
+    ∷ Step.Retire 7 gives 0
+    ∷ []
+
+-- ---- 8, home 5, slot 3, Q 10 and R 20: a call goes out and comes in at 9 and not at 10, a sweep releases at 20 and not at 19
+
+abbrev pub onTime : List Line
+onTime =
+    Step.Begin 5 3 10 20 gives 3  -- clock 5: 1
+    ∷ Step.Tick 5 6 gives 7
+    ∷ Step.Invoke 3 5 0 2 0 gives 0  -- 8
+    ∷ Step.Invoke 3 5 0 2 0 gives 1  -- 9
+    ∷ Step.Invoke 3 5 0 2 0 refusedBy 8
+    ∷ Step.Deliver 0 gives 0  -- clock 0: 9
+    ∷ Step.Deliver 1 refusedBy 8
+    ∷ Step.Tick 5 9 gives 18
+    ∷ Step.Sweep 5 gives 0  -- 19
+    ∷ Step.Sweep 5 gives 1  -- 20
+    ∷ Step.Tick 0 20 gives 29
+    ∷ Step.Sweep 0 gives 1  -- clock 0: 30
+    -- a message of it remains
+    ∷ Step.Retire 3 refusedBy 5
+    ∷ Step.Drop 1 gives 0
+    ∷ Step.Retire 3 gives 0
+    ∷ []
+
+-- ---- 7, 11 and 20, on tables that are handed in
+
+-- the start, with another clock at a station
+abbrev pub startAt : ℕ → ℕ → Tables
+startAt s n = putSite start s (record { clock = n; up = true })
+
+abbrev pub lastClock : List Line
+lastClock =
+    Step.Tick 4 1 gives 1999999999
+    ∷ Step.Tick 4 2 refusedBy 7
+    -- 2,000,000,000 is in range, and no Q is above it
+    ∷ Step.Begin 4 0 999999990 1000000000 refusedBy 8
+    ∷ Step.Sweep 4 gives 0  -- clock 4: 2,000,000,000
+    ∷ Step.Sweep 4 refusedBy 7
+    ∷ Step.Crash 4 refusedBy 7
+    ∷ Step.Begin 4 0 999999990 1000000000 refusedBy 7
+    ∷ Step.Begin 3 0 100 200 gives 0  -- clock 3: 1
+    ∷ Step.Invoke 0 3 0 17 0 gives 0  -- 2
+    ∷ Step.Deliver 0 refusedBy 7
+    ∷ []
+
+-- an active passage in slot 3, home 2, one below 1,000 in its round, its calls sent to station 7 and its calls received
+abbrev pub nearlyFull : Tables
+nearlyFull =
+    putVisit
+    (putPassage
+    start
+    3
+    (record {
+      status = Status.Active;
+      home = 2;
+      round =
+          record {
+            number = 999;
+            kind = Kind.Prepare;
+            phase = Phase.None;
+            answered = 0;
+            figures = noRound .figures;
+          };
+      generation = 0;
+    }))
+    2
+    3
+    (record {
+      there = true;
+      quiesce = 500;
+      release = 600;
+      round = 999;
+      prepared = false;
+      dead = false;
+      sent = set noCounts 7 999;
+      received = 999;
+    })
+
+abbrev pub lastCount : List Line
+lastCount =
+    Step.Invoke 3 2 0 28 0 gives 0  -- clock 2: 1
+    ∷ Step.Invoke 3 2 0 28 0 refusedBy 11
+    ∷ Step.Invoke 3 2 0 8 0 gives 1  -- 2
+    ∷ Step.Invoke 3 2 0 8 0 gives 2  -- 3
+    ∷ Step.Deliver 1 gives 0  -- 4
+    ∷ Step.Deliver 2 refusedBy 11
+    ∷ Step.Refresh 3 700 800 gives 1000  -- 5
+    ∷ Step.Prepare 3 refusedBy 11
+    ∷ []
+
+-- slot 9 is committed at home 4, in generation 255: handle 9 + 16 × 255
+abbrev pub lastGeneration : Tables
+lastGeneration =
+    putPassage start 9 (record { status = Status.Committed; home = 4; round = noRound; generation = 255 })
+
+-- the start, with another width of an object
+abbrev pub startWith : ℕ → ℕ → Tables
+startWith k n =
+    record {
+      sites = start .sites;
+      objects = set (start .objects) k (record { value = n; holder = Holder.Nobody; before = 0 });
+      passages = start .passages;
+      visits = start .visits;
+      messages = start .messages;
+    }
+
+-- the start, with a round of kind none in phase 1
+abbrev pub startInPhase : Tables
+startInPhase =
+    putPassage
+    start
+    15
+    (record {
+      status = Status.Free;
+      home = 0;
+      round = record { number = 0; kind = Kind.None; phase = Phase.One; answered = 0; figures = noRound .figures };
+      generation = 0;
+    })
+
+abbrev pub refusals : List Row
+refusals =
+    -- 1 leaves the tables, so the sweep of a clock at 0 moves it to 1
+    run strayBytes (replicate 10 (refused 1) ++ (accepted 0 ∷ [])) (clock 3 1 ∷ [])
+    -- 2
+    ∷ lines wideFields (clock 3 1 ∷ clock 7 1000000 ∷ visit 3 15 999999990 1000000000 0 0 ∷ [])
+    -- 5
+    ∷ lines wrongStates (clock 6 4 ∷ status 7 Status.Free ∷ generation 7 1 ∷ [])
+    -- 8
+    ∷ lines onTime (clock 5 20 ∷ clock 0 30 ∷ status 3 Status.Free ∷ generation 3 1 ∷ [])
+    -- 7
+    ∷ linesOn (startAt 4 1999999998) lastClock (clock 4 2000000000 ∷ clock 3 2 ∷ [])
+    -- 11
+    ∷ linesOn nearlyFull lastCount (clock 2 5 ∷ visit 2 3 500 800 1000 1000 ∷ sent 2 3 (0 ∷ 0 ∷ 2 ∷ 0 ∷ 0 ∷ 0 ∷ 0 ∷ 1000 ∷ []) ∷ [])
+    -- generation 255 is followed by 0
+    ∷ linesOn
+    lastGeneration
+    (Step.Retire 9 refusedBy 3 ∷ Step.Retire 4089 gives 0 ∷ Step.Begin 4 9 100 200 gives 9 ∷ Step.Abort 4089 refusedBy 3 ∷ [])
+    (clock 4 1 ∷ generation 9 0 ∷ [])
+    -- 20: a width of 1,000,001, with a step, and with a record that would be refused by 1
+    ∷ runOn (startWith 31 1000001) (recordOfStep (Step.Tick 3 5) ∷ replicate 16 0 ∷ []) (refused 20 ∷ refused 20 ∷ []) (clock 3 0 ∷ [])
+    ∷ linesOn (startWith 31 1000000) (Step.Tick 3 5 gives 5 ∷ []) (clock 3 5 ∷ [])
+    -- 20: a clock of 2,000,000,001
+    ∷ linesOn (startAt 7 2000000001) (Step.Tick 3 5 refusedBy 20 ∷ []) (clock 3 0 ∷ [])
+    -- 20: kind none in phase 1
+    ∷ linesOn startInPhase (Step.Tick 3 5 refusedBy 20 ∷ []) (clock 3 0 ∷ [])
+    ∷ []
+
+-- every refusal is as document 01 says
+pub refusals-hold : map found refusals ≡ map wanted refusals
+unfolding found wanted
+refusals-hold = refl

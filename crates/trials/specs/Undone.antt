@@ -1,0 +1,192 @@
+-- The second table of cases, what is undone: aborts and sweeps.
+-- The answers were worked out by hand from document 01; a clock beside a line is that of the acting station after it. Assumes nothing.
+use mathlib.Core.Path.{_≡_, refl}
+use mathlib.Core.List.{List, [], _∷_, _++_, map}
+use Rattle.trials.specs.Types.{Holder, Phase, Status, Step}
+use Rattle.rules.specs.Rows.{Row, Line, _gives_, _refusedBy_, lines, clock, up, width, holder, before, status, generation, round, visit, unvisited, mail, found, wanted}
+
+-- home 7, slot 0: object 31 is committed at 3,210 mm, by home alone
+abbrev pub firstWidth : List Line
+firstWidth =
+    Step.Begin 7 0 100 200 gives 0  -- clock 7: 1
+    ∷ Step.Invoke 0 7 1 31 3210 gives 0  -- 2
+    ∷ Step.Deliver 0 gives 0  -- 3
+    ∷ Step.Prepare 0 gives 1  -- 4
+    ∷ Step.Close 0 gives 1  -- 5
+    ∷ Step.Retire 0 gives 0
+    ∷ []
+
+-- home 6, slot 4: it is written twice and the passage aborted; the larger Q, 8 at station 7, is the new release time
+abbrev pub writesUndone : List Line
+writesUndone =
+    Step.Begin 6 4 100 110 gives 4  -- clock 6: 1
+    ∷ Step.Invoke 4 6 1 31 15000 gives 0  -- 2
+    ∷ Step.Deliver 0 gives 3210  -- clock 7: 6
+    ∷ Step.Invoke 4 6 1 31 16000 gives 0  -- clock 6: 3
+    ∷ Step.Deliver 0 gives 15000  -- clock 7: 7
+    ∷ Step.Abort 4 gives 0  -- clock 6: 4
+    ∷ Step.Abort 4 refusedBy 5
+    ∷ Step.Terminate 4 gives 1  -- 5
+    ∷ Step.Ask 4 7 gives 0  -- 6
+    ∷ Step.Deliver 0 gives 0  -- clock 7: 8
+    ∷ Step.Deliver 0 gives 0  -- clock 6: 9
+    ∷ Step.Close 4 gives 2  -- 10
+    ∷ Step.Tell 4 7 gives 0  -- 11
+    ∷ Step.Retire 4 refusedBy 5
+    ∷ []
+
+-- home 7, slot 3: a read is refused by 10 until the sweep, then it reads 3,210 again
+abbrev pub widthReadBack : List Line
+widthReadBack =
+    Step.Begin 7 3 100 200 gives 3  -- clock 7: 9
+    ∷ Step.Invoke 3 7 0 31 0 gives 1  -- 10
+    ∷ Step.Deliver 1 refusedBy 10
+    ∷ Step.Sweep 7 gives 0  -- 11
+    ∷ Step.Deliver 0 gives 0  -- 12
+    ∷ Step.Sweep 7 gives 1  -- 13
+    ∷ Step.Deliver 1 gives 3210  -- 14
+    -- the home visit remains
+    ∷ Step.Retire 4 refusedBy 5
+    ∷ []
+
+-- home 5, slot 1: a promise given at station 2 outlives the release time and its home, until a terminate lets it off
+abbrev pub promiseLetOff : List Line
+promiseLetOff =
+    Step.Begin 5 1 200 300 gives 1  -- clock 5: 1
+    ∷ Step.Invoke 1 5 1 10 640 gives 0  -- 2
+    ∷ Step.Deliver 0 gives 0  -- clock 2: 3
+    ∷ Step.Prepare 1 gives 1  -- clock 5: 3
+    ∷ Step.Ask 1 2 gives 0  -- 4
+    ∷ Step.Deliver 0 gives 0  -- clock 2: 5
+    ∷ Step.Tick 2 400 gives 405
+    ∷ Step.Sweep 2 gives 0  -- 406
+    ∷ Step.Crash 5 gives 0  -- clock 5: 5
+    ∷ Step.Deliver 0 refusedBy 4
+    -- a drop acts at no site
+    ∷ Step.Drop 0 gives 0
+    ∷ Step.Recover 5 gives 0  -- 6
+    ∷ Step.Deliver 0 refusedBy 3
+    ∷ Step.Terminate 1 gives 2  -- 7
+    ∷ Step.Ask 1 2 gives 0  -- 8
+    ∷ Step.Deliver 0 gives 0  -- clock 2: 407
+    ∷ Step.Sweep 2 gives 1  -- 408
+    ∷ Step.Deliver 0 gives 0  -- clock 5: 408
+    ∷ Step.Close 1 gives 2  -- 409
+    ∷ Step.Tell 1 2 gives 0  -- 410
+    -- the visit that is told is gone
+    ∷ Step.Deliver 0 refusedBy 6
+    ∷ Step.Drop 0 gives 0
+    ∷ Step.Sweep 5 gives 1  -- 411
+    ∷ Step.Retire 1 gives 0
+    ∷ []
+
+-- station 6 is home of slots 0, 11, 12 and 13; slot 12 has given its promise, and slot 13 has time
+abbrev pub fourVisits : List Line
+fourVisits =
+    Step.Begin 6 0 50 60 gives 0  -- clock 6: 1
+    ∷ Step.Begin 6 11 50 70 gives 11  -- 2
+    ∷ Step.Begin 6 12 50 60 gives 12  -- 3
+    ∷ Step.Begin 6 13 1500000 2000000 gives 13  -- 4
+    ∷ Step.Invoke 0 6 1 24 100 gives 0  -- 5
+    ∷ Step.Deliver 0 gives 0  -- 6
+    ∷ Step.Invoke 11 6 1 25 200 gives 0  -- 7
+    ∷ Step.Deliver 0 gives 0  -- 8
+    ∷ Step.Prepare 12 gives 1  -- 9
+    ∷ []
+
+-- one sweep takes two of them; all of it at clocks above 1,000,000, which a message carries to station 0
+abbrev pub twoSwept : List Line
+twoSwept =
+    Step.Tick 6 49 gives 58
+    ∷ Step.Sweep 6 gives 0  -- 59
+    ∷ Step.Tick 6 1000000 gives 1000059
+    ∷ Step.Sweep 6 gives 2  -- 1,000,060
+    ∷ Step.Invoke 13 6 0 25 0 gives 0  -- 1,000,061
+    ∷ Step.Deliver 0 gives 0  -- 1,000,062
+    ∷ Step.Invoke 13 6 0 3 0 gives 0  -- 1,000,063
+    ∷ Step.Deliver 0 gives 0  -- clock 0: 1,000,064
+    ∷ Step.Tick 6 999999 gives 2000062
+    ∷ Step.Sweep 6 gives 1  -- 2,000,063
+    ∷ Step.Abort 12 gives 0  -- 2,000,064
+    ∷ Step.Sweep 6 gives 1  -- 2,000,065
+    ∷ Step.Retire 0 gives 0
+    ∷ Step.Retire 13 refusedBy 5
+    ∷ Step.Retire 12 gives 0
+    ∷ []
+
+-- home 2, slot 9: its visit at station 4 is swept; the passage stays active, and the round finds no visit there
+abbrev pub sweptAway : List Line
+sweptAway =
+    Step.Begin 2 9 100 110 gives 9  -- clock 2: 1
+    ∷ Step.Invoke 9 2 1 18 4444 gives 0  -- 2
+    ∷ Step.Deliver 0 gives 0  -- clock 4: 3
+    ∷ Step.Tick 4 200 gives 203
+    ∷ Step.Sweep 4 gives 1  -- 204
+    ∷ Step.Invoke 9 2 0 18 0 gives 0  -- clock 2: 3
+    ∷ Step.Deliver 0 refusedBy 8
+    ∷ Step.Refresh 9 300 310 gives 1  -- 4
+    ∷ Step.Ask 9 4 gives 1  -- 5
+    ∷ Step.Deliver 1 refusedBy 6
+    ∷ []
+
+-- home 6, slot 1: a close after the home visit was swept
+abbrev pub homeSwept : List Line
+homeSwept =
+    Step.Begin 6 1 30 40 gives 1  -- clock 6: 1
+    ∷ Step.Invoke 1 6 1 27 900 gives 0  -- 2
+    ∷ Step.Deliver 0 gives 0  -- 3
+    ∷ Step.Abort 1 gives 0  -- 4
+    ∷ Step.Terminate 1 gives 1  -- 5
+    ∷ Step.Tick 6 40 gives 45
+    ∷ Step.Sweep 6 gives 1  -- 46
+    ∷ Step.Close 1 gives 1  -- 47
+    ∷ Step.Terminate 1 refusedBy 6
+    ∷ Step.Invoke 1 6 0 27 0 refusedBy 6
+    ∷ Step.Crash 6 gives 0  -- 48
+    -- a retire acts at no site
+    ∷ Step.Retire 1 gives 0
+    ∷ []
+
+abbrev pub undone : List Row
+undone =
+    -- an abort: two writes over a committed width are undone, and another passage reads that width
+    lines
+    (firstWidth ++ writesUndone ++ widthReadBack)
+    (clock 7 14 ∷ clock 6 11 ∷ width 31 3210 ∷ holder 31 (Holder.Slot 3) ∷ before 31 3210 ∷ status 4 Status.Aborted
+    ∷ round 4 1 Phase.Two
+    ∷ visit 6 4 4 8 1 0
+    ∷ unvisited 7 4
+    ∷ status 3 Status.Active
+    ∷ [])
+    -- no sweep takes a prepared visit; a terminate takes the mark off
+    ∷ lines promiseLetOff
+    (clock 2 408 ∷ clock 5 411 ∷ width 10 0 ∷ holder 10 Holder.Nobody ∷ before 10 0 ∷ generation 1 1 ∷ mail 0 0 ∷ [])
+    ∷ []
+
+abbrev pub sweeps : List Row
+sweeps =
+    -- a sweep of two visits
+    lines (fourVisits ++ twoSwept)
+    (clock 6 2000065 ∷ clock 0 1000064 ∷ width 24 0 ∷ holder 24 Holder.Nobody ∷ width 25 0 ∷ holder 25 Holder.Nobody
+    ∷ status 0 Status.Free
+    ∷ generation 0 1
+    ∷ status 11 Status.Aborted
+    ∷ status 13 Status.Aborted
+    ∷ visit 0 13 1500000 2000000 0 1
+    ∷ holder 3 (Holder.Slot 13)
+    ∷ [])
+    -- a sweep away from home
+    ∷ lines sweptAway (clock 2 5 ∷ clock 4 204 ∷ status 9 Status.Active ∷ width 18 0 ∷ unvisited 4 9 ∷ [])
+    -- a sweep at home, before the close
+    ∷ lines homeSwept (clock 6 48 ∷ up 6 0 ∷ status 1 Status.Free ∷ generation 1 1 ∷ width 27 0 ∷ [])
+    ∷ []
+
+-- every undoing is as document 01 says
+pub undone-hold : map found undone ≡ map wanted undone
+unfolding found wanted
+undone-hold = refl
+
+-- and every sweep
+pub sweeps-hold : map found sweeps ≡ map wanted sweeps
+unfolding found wanted
+sweeps-hold = refl
