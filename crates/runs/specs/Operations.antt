@@ -6,3 +6,4 @@ pub mod Invoked
 pub mod Delivered
 pub mod HeldAway
 pub mod LetGo
+pub mod HeldObject
