@@ -45,7 +45,6 @@ use Rattle.runs.specs.Order.SweptLedger.{ReleasedBy, sweep-released}
 -- ---- a visit that is still open is not quiet
 
 module _ (t : Tables) (ls : ℕ → Ledger) (k : Pledged t ls) (s p : ℕ) (slot : p < 16) (early : StillOpen t s p) where
-
   hold : Holds (viewOf t p) (ls p)
   hold = k .kept .slots p slot
 

@@ -113,13 +113,15 @@ module _ (t : Tables) (step : Step) (a : isAccepted (stepOf t step .answer) ≡ 
   call-means c f =
       all-joined (Means t step) (tookOf t step (placesOf t (lookOf step) .slot) (c .object)) _
       (cond-keeps (All (Means t step)) (isHolding t (placesOf t (lookOf step) .slot) (c .object)) [] _ tt
-      (record { accepted = a; operation = λ y. absurd (false≢true y); held = λ y. absurd (false≢true y); freed = λ y. absurd (false≢true y) }, tt))
-      (record {
-        accepted = a;
-        operation = λ y. rw (a, f .code, eq-eqb (slotOf (messageAt t (flatOf step .c % 32) .handle)) (placesOf t (lookOf step) .slot) (f .slot), f .body) (eq-eqb (c .object) (c .object) refl);
-        held = λ y. absurd (false≢true y);
-        freed = λ y. absurd (false≢true y);
-      }, tt)
+      (record { accepted = a; operation = λ y. absurd (false≢true y); held = λ y. absurd (false≢true y); freed = λ y. absurd (false≢true y) }, tt)) (
+        record {
+          accepted = a;
+          operation = λ y. rw (a, f .code, eq-eqb (slotOf (messageAt t (flatOf step .c % 32) .handle)) (placesOf t (lookOf step) .slot) (f .slot), f .body) (eq-eqb (c .object) (c .object) refl);
+          held = λ y. absurd (false≢true y);
+          freed = λ y. absurd (false≢true y);
+        },
+        tt,
+      )
 
   accepted-means : Did t step (leftBy t step) → All (Means t step) (eventsOf t step)
   accepted-means (took c f) =
