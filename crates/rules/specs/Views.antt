@@ -126,7 +126,7 @@ empty-says (Body.PhaseTwo n told) e = absurd (false≢true e)
 empty-says (Body.Answer n r q) e = absurd (false≢true e)
 
 -- an empty slot is refused; any other message moves the clock past its stamp
-delivered-clock :
+pub delivered-clock :
     (body : Body) (m : ℕ) (seen : Seen) → seen .message .body ≡ body → isAccepted (deliverBodyOf body m seen .answer) ≡ true
     → deliverBodyOf body m seen .left .site .clock ≡ mailClock seen
 unfolding deliverBodyOf emptyOf deliverCallOf deliverPhaseOneOf deliverPhaseTwoOf deliverAnswerOf
