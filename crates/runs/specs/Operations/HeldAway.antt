@@ -3,7 +3,7 @@
 use Prim.Native.Nat.{ℕ, _+_, _*_, _/_, _%_, _<_}
 use native.Mathlib.Omega.{arith}
 use mathlib.Core.Path.{_≡_, refl, sym, ap, _∙_, subst₂}
-use mathlib.Core.Logic.{_≢_, ⊎-elim, _⊎_}
+use mathlib.Core.Logic.{_≢_, ⊎-elim}
 use mathlib.Core.Bool.{true, false, true≢false}
 use mathlib.Core.List.{List}
 use lib.ListN.{getD}
@@ -29,6 +29,7 @@ use Rattle.runs.specs.Walk.Put.{same-or-other, set-at}
 use Rattle.runs.specs.Walk.Steps.{placesAt, seenAt}
 use Rattle.runs.specs.Walk.Sound.{Sound, sound-accepted-has}
 use Rattle.runs.specs.Promises.Promised.{stored-has}
+use Rattle.runs.specs.Promises.HeldFast.{turned-gone}
 use Rattle.runs.specs.Operations.Single.{single-head}
 
 module _ (p : ℕ) where
@@ -145,13 +146,6 @@ module _ (p : ℕ) where
       unswept y = rw (away y)
   keeps-after-turned (Trip.Crash site) slot seen away = λ i l e. e
 
-  -- neither makes a visit
-  gone-after-turned : (trip : Trip) (n : ℕ) (seen : Seen) → seen .visit .there ≡ false → turnSeen trip n seen .visit .there ≡ false
-  unfolding sweptSlot crashedSlot
-  gone-after-turned Trip.Nowhere n seen e = e
-  gone-after-turned (Trip.Sweep site) n seen e = cond-keeps (λ (x : Seen). x .visit .there ≡ false) (isSwept seen) _ seen refl e
-  gone-after-turned (Trip.Crash site) n seen e = rw e
-
 -- ---- steps, for one object and the slot that holds it
 
 module _ (k p : ℕ) (slot : p < 16) where
@@ -223,7 +217,7 @@ module _ (k p : ℕ) (slot : p < 16) where
             (objectSite k)
             p
             slot
-            (λ a b. gone-after-turned p trip n (seenOf (o .tables) at) (subst₂ (λ (x y : ℕ). visitAt (o .tables) x y .there ≡ false) a b away))
+            (λ a b. turned-gone trip n (seenOf (o .tables) at) (subst₂ (λ (x y : ℕ). visitAt (o .tables) x y .there ≡ false) a b away))
             away,
       )
 

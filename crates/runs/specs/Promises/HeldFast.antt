@@ -132,8 +132,8 @@ module _ (t : Tables) (at : Places) where
       (either (isSwept (seenOf t at)))
   fast-after-turned (Trip.Crash site) b = fast-after-same (crashedSlot site (at .slot) (seenOf t at)) refl
 
--- neither makes a visit
-turned-gone : (trip : Trip) (n : ℕ) (seen : Seen) → seen .visit .there ≡ false → turnSeen trip n seen .visit .there ≡ false
+-- neither a sweep nor a crash makes a visit
+pub turned-gone : (trip : Trip) (n : ℕ) (seen : Seen) → seen .visit .there ≡ false → turnSeen trip n seen .visit .there ≡ false
 unfolding sweptSlot crashedSlot
 turned-gone Trip.Nowhere n seen e = e
 turned-gone (Trip.Sweep site) n seen e = cond-keeps (λ (x : Seen). x .visit .there ≡ false) (isSwept seen) _ seen refl e

@@ -55,22 +55,24 @@ firm-after-settled :
 firm-after-settled trip cs v seen left e = settled (λ (x : Seen). Firm trip (x .visit)) cs v seen left (λ g. e)
 
 -- a rule that changes a visit and leaves it there
-there-after-change : (v changed : Visit) → v .there ≡ true → changed .there ≡ true → whereThere v changed .there ≡ true
+pub there-after-change : (v changed : Visit) → v .there ≡ true → changed .there ≡ true → whereThere v changed .there ≡ true
 there-after-change v changed e f = rw e f
 
 -- phase 2 of a round that is no commit round leaves the visit there
-closed-there : (k : Kind) (m : ℕ) (v : Visit) → v .there ≡ true → isPrepare k ≡ false → toldVisit (toldOf k m) v .there ≡ true
+pub closed-there : (k : Kind) (m : ℕ) (v : Visit) → v .there ≡ true → isPrepare k ≡ false → toldVisit (toldOf k m) v .there ≡ true
 closed-there Kind.None m v e f = e
 closed-there (Kind.Refresh q r) m v e f = e
 closed-there Kind.Terminate m v e f = e
 closed-there Kind.Prepare m v e f = absurd (true≢false f)
 
-told-there : (told : Told) (v : Visit) → v .there ≡ true → tellsPrepare told ≡ false → toldVisit told v .there ≡ true
+-- and so does a phase 2 message that is no commit's
+pub told-there : (told : Told) (v : Visit) → v .there ≡ true → tellsPrepare told ≡ false → toldVisit told v .there ≡ true
 told-there (Told.Refresh q) v e f = e
 told-there (Told.Terminate m) v e f = e
 told-there Told.Prepare v e f = absurd (true≢false f)
 
-mail-there :
+-- and so does every message that is no word of a commit
+pub mail-there :
     (body : Body) (m : ℕ) (seen : Seen) → Mail body → seen .visit .there ≡ true → carriesCommit body ≡ false
     → deliverBodyOf body m seen .left .visit .there ≡ true
 unfolding deliverBodyOf deliverCallOf deliverPhaseOneOf deliverPhaseTwoOf
