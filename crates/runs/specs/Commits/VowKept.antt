@@ -48,6 +48,10 @@ committed-tells p f e = subst (λ (s : Status). RoundFor s (p .round .kind) (p .
 pub running-not-committed : (s : Status) → isRunning s ≡ true → s ≡ Status.Committed → ⊥
 running-not-committed s r e = false≢true (sym (ap isRunning e) ∙ r)
 
+-- nor is an aborted one
+pub aborted-not-committed : Status.Aborted ≡ Status.Committed → ⊥
+aborted-not-committed e = true≢false (ap isAborted e)
+
 pub active-runs : (s : Status) → isActive s ≡ true → isRunning s ≡ true
 active-runs Status.Free y = absurd (false≢true y)
 active-runs Status.Active y = refl
@@ -283,9 +287,6 @@ module _ (w : View) (l : Ledger) (a k c source : ℕ) (v : Visit) (m : Message) 
       (λ y. absurd (false≢true (ap isPrepare y)))
       (wordless f (λ y. aborted-not-committed (sym from ∙ y)) _)
       (mail-answers f)
-    where
-      aborted-not-committed : Status.Aborted ≡ Status.Committed → ⊥
-      aborted-not-committed y = true≢false (ap isAborted y)
   vow-opened Kind.Prepare from was e f =
       record {
         round = (refl, refl);
