@@ -126,7 +126,7 @@ empty-says (Body.PhaseTwo n told) e = absurd (false≢true e)
 empty-says (Body.Answer n r q) e = absurd (false≢true e)
 
 -- an empty slot is refused; any other message moves the clock past its stamp
-delivered-clock :
+pub delivered-clock :
     (body : Body) (m : ℕ) (seen : Seen) → seen .message .body ≡ body → isAccepted (deliverBodyOf body m seen .answer) ≡ true
     → deliverBodyOf body m seen .left .site .clock ≡ mailClock seen
 unfolding deliverBodyOf emptyOf deliverCallOf deliverPhaseOneOf deliverPhaseTwoOf deliverAnswerOf
@@ -136,8 +136,8 @@ delivered-clock (Body.PhaseOne n a) m seen b e = settled-accepted (λ s. s .site
 delivered-clock (Body.PhaseTwo n d) m seen b e = settled-accepted (λ s. s .site .clock ≡ mailClock seen) _ _ seen _ (λ f. refl) e
 delivered-clock (Body.Answer n r q) m seen b e = settled-accepted (λ s. s .site .clock ≡ mailClock seen) _ _ seen _ (λ f. refl) e
 
--- at home a message may give the passage another status, and no other generation
-home-generation : (b : Bool) (x y : Passage) (g : ℕ) → x .generation ≡ g → y .generation ≡ g → cond b x y .generation ≡ g
+-- of two passages with one generation, either has it: at home a message may give the passage another status, and no other generation
+pub home-generation : (b : Bool) (x y : Passage) (g : ℕ) → x .generation ≡ g → y .generation ≡ g → cond b x y .generation ≡ g
 home-generation b x y g = cond-keeps (λ (p : Passage). p .generation ≡ g) b x y
 
 delivered-generation : (body : Body) (m : ℕ) (seen : Seen) → deliverBodyOf body m seen .left .passage .generation ≡ seen .passage .generation

@@ -9,7 +9,7 @@ use Rattle.rules.specs.declared.looking.Trip.{Trip}
 use Rattle.rules.specs.LoopsLaws.{either}
 use Rattle.rules.specs.Tables.{passageAt}
 use Rattle.rules.specs.Answers.{isAccepted}
-use Rattle.rules.specs.Parts.{isFree, isRunning, isAborted, isOver, isClosed, largestQuiesce, askedOf, askedStatus, toldOf, toldStatus}
+use Rattle.rules.specs.Parts.{isFree, isRunning, isOver, isClosed, largestQuiesce, askedOf, askedStatus, toldOf, toldStatus}
 use Rattle.rules.specs.Rounds.{roundTold}
 use Rattle.rules.specs.Machine.{lookOf, seenOf, decideOf, foundOf, headOf, tripPlaces, turnSeen, turnOf, stepOf}
 use Rattle.rules.specs.StoredLaws.{turn-stored}
@@ -27,14 +27,9 @@ use Rattle.runs.specs.Promises.Standing.{passage-has}
 use Rattle.runs.specs.Moves.Definitions.{OpenedFrom, Move, Turn}
 use Rattle.runs.specs.Moves.Steps.{move-of, turn-of}
 use Rattle.runs.specs.Commits.Vow.{RoundFor, RoundFits, Vow}
-use Rattle.runs.specs.Commits.VowLaws.{none-not-one, one-not-two, active-runs}
+use Rattle.runs.specs.Commits.VowLaws.{none-not-one, one-not-two, aborted-not-committed, active-runs}
 use Rattle.runs.specs.Commits.Pledged.{Pledged, pledged-run}
 use Rattle.runs.specs.Commits.Since.{Carries, run-carried, step-carried}
-
--- ---- statuses
-
-aborted-not-committed : Status.Aborted ≡ Status.Committed → ⊥
-aborted-not-committed e = true≢false (ap isAborted e)
 
 -- ---- over is over
 

@@ -22,7 +22,7 @@ use Rattle.runs.specs.Kept.Times.{asked-says}
 use Rattle.runs.specs.Moves.Definitions.{Alike, isAnswer, Plain, OpenedFrom, Move, Turn}
 use Rattle.runs.specs.Moves.Laws.{sites-after, where-is, where-not}
 use Rattle.runs.specs.Commits.Vow.{RoundFor, RoundFits, Vow}
-use Rattle.runs.specs.Commits.VowLaws.{one-not-two, none-not-one, none-not-two, prepare-says, committed-tells, running-not-committed, active-runs, telling-commits}
+use Rattle.runs.specs.Commits.VowLaws.{one-not-two, none-not-one, none-not-two, prepare-says, committed-tells, running-not-committed, aborted-not-committed, active-runs, telling-commits}
 
 -- ---- the vow over a view with one visit, one clock and one message changed
 
@@ -240,9 +240,6 @@ module _ (w : View) (l : Ledger) (a k c source : ℕ) (v : Visit) (m : Message) 
       (λ y. absurd (false≢true (ap isPrepare y)))
       (wordless f (λ y. aborted-not-committed (sym from ∙ y)) _)
       (mail-answers f)
-    where
-      aborted-not-committed : Status.Aborted ≡ Status.Committed → ⊥
-      aborted-not-committed y = true≢false (ap isAborted y)
   vow-opened Kind.Prepare from was e f =
       record {
         round = (refl, refl);

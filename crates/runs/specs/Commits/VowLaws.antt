@@ -2,7 +2,7 @@
 use mathlib.Core.Path.{_≡_, refl, sym, ap, _∙_, subst}
 use mathlib.Core.Logic.{_≢_, inl, inr}
 use mathlib.Core.Bool.{true, false, true≢false, false≢true}
-use Rattle.rules.specs.Parts.{isActive, isRunning, isPhaseOne, isPhaseTwo}
+use Rattle.rules.specs.Parts.{isActive, isRunning, isAborted, isPhaseOne, isPhaseTwo}
 use Rattle.runs.specs.Types.{Kind, Phase, Status, Passage}
 use Rattle.runs.specs.Walk.Says.{isBinding, isPrepare}
 use Rattle.runs.specs.Commits.Vow.{RoundFor, RoundFits}
@@ -29,6 +29,10 @@ committed-tells p f e = subst (λ (s : Status). RoundFor s (p .round .kind) (p .
 -- a running one is not committed
 pub running-not-committed : (s : Status) → isRunning s ≡ true → s ≡ Status.Committed → ⊥
 running-not-committed s r e = false≢true (sym (ap isRunning e) ∙ r)
+
+-- nor is an aborted one
+pub aborted-not-committed : Status.Aborted ≡ Status.Committed → ⊥
+aborted-not-committed e = true≢false (ap isAborted e)
 
 pub active-runs : (s : Status) → isActive s ≡ true → isRunning s ≡ true
 active-runs Status.Free y = absurd (false≢true y)

@@ -9,7 +9,7 @@ use lib.Dec.{eqb, leb}
 use borrow.Author.Tests.{leb-false, eqb-true, ne-eqb}
 use Rattle.rules.specs.declared.looking.MailAt.{MailAt}
 use Rattle.rules.specs.declared.looking.Trip.{Trip}
-use Rattle.rules.specs.LoopsLaws.{either, cond-keeps, and-left, and-right, or-left, or-right, not-false}
+use Rattle.rules.specs.LoopsLaws.{either, cond-keeps, and-left, and-right, or-left, or-right, not-false, not-true}
 use Rattle.rules.specs.Tables.{siteAt, passageAt, visitAt, messageAt, noMessage, slotOf}
 use Rattle.rules.specs.Ranges.{inRange}
 use Rattle.rules.specs.Answers.{isAccepted, settleOf}
@@ -321,10 +321,6 @@ turn-of t (Trip.Sweep site) slot =
     refl))
     (λ e. rw e (Turn.Stays _ refl refl))
     (either (isSwept (seenOf t (slotPlaces site slot))))
-  where
-    not-true : (b : Bool) → not b ≡ true → b ≡ false
-    not-true true e = absurd (false≢true e)
-    not-true false e = refl
 turn-of t (Trip.Crash site) slot =
     Turn.Crashes
     site
@@ -332,9 +328,5 @@ turn-of t (Trip.Crash site) slot =
     (losesHome site (passageAt t slot) || not (visitAt t (site % 8) slot .prepared))
     (λ b. and-left _ _ b)
     refl
-    (λ kept hits. unhit (visitAt t (site % 8) slot .prepared) (rw kept at hits))
+    (λ kept hits. not-true (visitAt t (site % 8) slot .prepared) (rw kept at hits))
     refl
-  where
-    unhit : (b : Bool) → not b ≡ true → b ≡ false
-    unhit true e = absurd (false≢true e)
-    unhit false e = refl

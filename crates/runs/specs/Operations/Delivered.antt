@@ -2,30 +2,18 @@
 use Prim.Native.Nat.{ℕ, _+_, _%_, max}
 use native.Mathlib.Omega.{arith}
 use mathlib.Core.Path.{_≡_, refl, ap, _∙_}
-use mathlib.Core.Bool.{true, true≢false}
+use mathlib.Core.Bool.{true}
 use Rattle.rules.specs.Tables.{siteAt, messageAt}
 use Rattle.rules.specs.Answers.{isAccepted}
-use Rattle.rules.specs.Calls.{mailClock, emptyOf, deliverCallOf, deliverPhaseOneOf, deliverPhaseTwoOf, deliverAnswerOf, deliverBodyOf}
 use Rattle.rules.specs.Machine.{lookOf, placesOf, decideOf, stepOf}
 use Rattle.rules.specs.StoredLaws.{site-after-stored}
 use Rattle.rules.specs.RangesLaws.{placed-places}
-use Rattle.rules.specs.Views.{settled-accepted}
-use Rattle.runs.specs.Types.{Site, Body, Tables, Step, Seen}
+use Rattle.rules.specs.Views.{delivered-clock}
+use Rattle.runs.specs.Types.{Site, Tables, Step}
 use Rattle.runs.specs.Walk.Steps.{placesAt, seenAt}
 use Rattle.runs.specs.Walk.Sound.{Sound}
 use Rattle.runs.specs.Operations.Definitions.{AfterSent}
 use Rattle.runs.specs.Operations.Single.{decision-accepted, single-stored}
-
--- an empty slot is refused, and any other message moves the clock to 1 + max(clock, stamp)
-clock-of-body :
-    (body : Body) (m : ℕ) (seen : Seen) → seen .message .body ≡ body → isAccepted (deliverBodyOf body m seen .answer) ≡ true
-    → deliverBodyOf body m seen .left .site .clock ≡ mailClock seen
-unfolding deliverBodyOf emptyOf deliverCallOf deliverPhaseOneOf deliverPhaseTwoOf deliverAnswerOf
-clock-of-body Body.Empty m seen b e = settled-accepted (λ s. s .site .clock ≡ mailClock seen) _ _ seen _ (λ f. absurd (true≢false (rw b at (f .found)))) e
-clock-of-body (Body.Call c) m seen b e = settled-accepted (λ s. s .site .clock ≡ mailClock seen) _ _ seen _ (λ f. refl) e
-clock-of-body (Body.PhaseOne n a) m seen b e = settled-accepted (λ s. s .site .clock ≡ mailClock seen) _ _ seen _ (λ f. refl) e
-clock-of-body (Body.PhaseTwo n d) m seen b e = settled-accepted (λ s. s .site .clock ≡ mailClock seen) _ _ seen _ (λ f. refl) e
-clock-of-body (Body.Answer n r q) m seen b e = settled-accepted (λ s. s .site .clock ≡ mailClock seen) _ _ seen _ (λ f. refl) e
 
 module _ (t : Tables) (m : ℕ) (z : Sound t) (e : isAccepted (stepOf t (Step.Deliver m) .answer) ≡ true) where
   -- after an accepted delivery the clock of the message's destination is 1 + max(clock, stamp)
@@ -36,7 +24,7 @@ module _ (t : Tables) (m : ℕ) (z : Sound t) (e : isAccepted (stepOf t (Step.De
   clock-after-delivered =
       ap (λ (u : Tables). siteAt u (messageAt t (m % 32) .destination % 8) .clock) (single-stored t (Step.Deliver m) refl e)
       ∙ ap (λ (s : Site). s .clock) (site-after-stored t (placesAt t (Step.Deliver m)) _ (z .sized) (placed-places t (lookOf (Step.Deliver m))))
-      ∙ clock-of-body (messageAt t (m % 32) .body) m (seenAt t (Step.Deliver m)) refl (decision-accepted t (Step.Deliver m) e)
+      ∙ delivered-clock (messageAt t (m % 32) .body) m (seenAt t (Step.Deliver m)) refl (decision-accepted t (Step.Deliver m) e)
 
   -- so it is above the message's stamp, and above what it was
   pub delivered-after-sent : AfterSent t (stepOf t (Step.Deliver m) .tables) (messageAt t (m % 32))

@@ -5,113 +5,31 @@ use Prim.Native.Nat.{ℕ, _%_, _≤_, _<_}
 use native.Mathlib.Omega.{arith}
 use mathlib.Core.Path.{_≡_, refl, sym, ap, _∙_, subst, subst₂}
 use mathlib.Core.Logic.{⊎-elim, _⊎_, inl, inr}
-use mathlib.Core.Bool.{true, false, not, _&&_, _||_, true≢false}
-use mathlib.Core.List.{List}
+use mathlib.Core.Bool.{true, false, _&&_, true≢false}
 use borrow.Author.Tests.{leb-true, ltb-false}
 use Rattle.rules.specs.declared.looking.Trip.{Trip}
-use Rattle.rules.specs.declared.outcomes.Check.{Check}
-use Rattle.rules.specs.LoopsLaws.{either, cond-keeps, and-left, and-right}
-use Rattle.rules.specs.Tables.{siteAt, passageAt, visitAt, messageAt, objectSite, slotOf}
-use Rattle.rules.specs.Answers.{isAccepted, firstOf, settleOf}
+use Rattle.rules.specs.LoopsLaws.{either, and-left, and-right}
+use Rattle.rules.specs.Tables.{siteAt, visitAt, objectSite}
+use Rattle.rules.specs.Answers.{isAccepted}
 use Rattle.rules.specs.AnswersLaws.{accepted-fine}
-use Rattle.rules.specs.Parts.{whereThere, toldOf, toldVisit}
-use Rattle.rules.specs.Stations.{sweepChecks, sweepOf, isSweepable, isSwept, sweptSlot, losesHome, crashedSlot}
-use Rattle.rules.specs.Passages.{beginOf, abortOf}
-use Rattle.rules.specs.Rounds.{openOf, terminateOf, prepareOf, closeOf}
-use Rattle.rules.specs.Calls.{deliverCallOf, deliverPhaseOneOf, deliverPhaseTwoOf, deliverBodyOf}
-use Rattle.rules.specs.Machine.{lookOf, placesOf, seenOf, decideOf, stored, headOf, turnOf, stepOf, tripPlaces, turnSeen}
+use Rattle.rules.specs.Stations.{sweepChecks, sweepOf, isSweepable, isSwept, sweptSlot}
+use Rattle.rules.specs.Machine.{lookOf, seenOf, decideOf, stored, headOf, turnOf, stepOf, tripPlaces, turnSeen}
 use Rattle.rules.specs.StoredLaws.{site-after-stored, site-after-stored-other, turn-stored}
 use Rattle.rules.specs.RangesLaws.{placed-places, placed-trip}
 use Rattle.rules.specs.RefusedLaws.{refused-leaves}
 use Rattle.rules.specs.Events.{isHolding}
-use Rattle.rules.specs.Views.{settled, Marks, Mail, mailDeed, Goes, deedOf}
-use Rattle.runs.specs.Types.{Site, Kind, Visit, Told, Body, Tables, Step, Places, Seen, Outcome, Found}
-use Rattle.runs.specs.Walk.Says.{isPrepare, tellsPrepare, carriesCommit}
+use Rattle.rules.specs.Views.{settled, Goes, deedOf}
+use Rattle.runs.specs.Types.{Site, Visit, Tables, Step, Places, Seen, Outcome}
 use Rattle.runs.specs.Walk.Put.{same-or-other}
 use Rattle.runs.specs.Walk.Steps.{placesAt, seenAt}
 use Rattle.runs.specs.Walk.Clocks.{turned-site}
 use Rattle.runs.specs.Walk.Sound.{Sound, sound-accepted-has}
-use Rattle.runs.specs.Kept.Times.{asked-says}
 use Rattle.runs.specs.Promises.Definitions.{isWord}
-use Rattle.runs.specs.Promises.Promised.{word-here, stored-has}
+use Rattle.runs.specs.Promises.Promised.{there-after-marked, there-after-crashed, stored-has}
 use Rattle.runs.specs.Promises.HeldFast.{let-go-with-visit}
 use Rattle.runs.specs.Operations.Definitions.{SweptAt}
 use Rattle.runs.specs.Operations.HeldAway.{held-away-after-step}
 use Rattle.runs.specs.Operations.Single.{decision-accepted, single-head}
-
--- ---- a step's own store leaves a visit there, unless it is home's word to it
-
-abbrev There : Seen → Type 0
-There s = s .visit .there ≡ true
-
-there-after-settled :
-    (cs : List Check) (v : ℕ) (seen left : Seen) → There left → There seen
-    → There (settleOf (record { answer = firstOf cs v; left = left }) seen .left)
-there-after-settled cs v seen left e = settled There cs v seen left (λ g. e)
-
--- a change of a visit that leaves it there
-there-after-change : (v changed : Visit) → v .there ≡ true → changed .there ≡ true → whereThere v changed .there ≡ true
-there-after-change v changed e f = rw e f
-
--- phase 2 that is no commit's leaves the visit there
-there-after-told : (told : Told) (v : Visit) → v .there ≡ true → tellsPrepare told ≡ false → toldVisit told v .there ≡ true
-there-after-told (Told.Refresh q) v e f = e
-there-after-told (Told.Terminate m) v e f = e
-there-after-told Told.Prepare v e f = absurd (true≢false f)
-
--- and so does a close of a round of another kind
-there-after-close : (kind : Kind) (m : ℕ) (v : Visit) → v .there ≡ true → isPrepare kind ≡ false → toldVisit (toldOf kind m) v .there ≡ true
-there-after-close Kind.None m v e f = e
-there-after-close (Kind.Refresh q r) m v e f = e
-there-after-close Kind.Terminate m v e f = e
-there-after-close Kind.Prepare m v e f = absurd (true≢false f)
-
-there-after-mail :
-    (body : Body) (m : ℕ) (seen : Seen) → Mail body → There seen → carriesCommit body ≡ false → There (deliverBodyOf body m seen .left)
-unfolding deliverBodyOf deliverCallOf deliverPhaseOneOf deliverPhaseTwoOf
-there-after-mail _ m seen (Mail.Calls c) e f =
-    there-after-settled _ _ seen _ (cond-keeps (λ (v : Visit). v .there ≡ true) (seen .visit .there) (seen .visit) _ e refl) e
-there-after-mail _ m seen (Mail.Asks n asked) e f = there-after-settled _ _ seen _ (asked-says asked n _ (seen .visit) .there ∙ e) e
-there-after-mail _ m seen (Mail.Tells n told) e f = there-after-settled _ _ seen _ (there-after-told told (seen .visit) e f) e
-there-after-mail _ m seen (Mail.Quiet body objects visit) e f = ap (λ (v : Visit). v .there) (visit m seen) ∙ e
-
-there-after-marked :
-    (t : Tables) (step : Step) (found : Found) → Marks step → visitAt t (placesAt t step .site) (placesAt t step .slot) .there ≡ true
-    → isWord t (placesAt t step .site) (placesAt t step .slot) step ≡ false
-    → There (decideOf step found (seenAt t step) .left)
-unfolding placesOf decideOf beginOf abortOf terminateOf prepareOf openOf closeOf
-there-after-marked t _ found (Marks.Begins home slot q r) e f = there-after-settled _ _ _ _ refl e
-there-after-marked t _ found (Marks.Terminates h) e f = there-after-settled _ _ _ _ e e
-there-after-marked t _ found (Marks.Prepares h) e f = there-after-settled _ _ _ _ e e
-there-after-marked t _ found (Marks.Closes h) e f =
-    let kind : Kind = passageAt t (slotOf h) .round .kind in
-    there-after-settled
-    _
-    _
-    _
-    _
-    (there-after-change _ _ e (there-after-close kind _ _ e (word-here (slotOf h) (passageAt t (slotOf h) .home % 8) _ f)))
-    e
-there-after-marked t _ found (Marks.Aborts h) e f = there-after-settled _ _ _ _ (there-after-change _ _ e e) e
-there-after-marked t _ found (Marks.Delivers m) e f =
-    there-after-mail
-    (messageAt t (m % 32) .body)
-    m
-    _
-    (mailDeed (messageAt t (m % 32) .body))
-    e
-    (word-here (slotOf (messageAt t (m % 32) .handle)) (messageAt t (m % 32) .destination % 8) _ f)
-there-after-marked t _ found (Marks.Stay step there prepared) e f = there found (seenAt t step) ∙ e
-
--- a crash leaves every visit there
-there-after-crashed : (site n : ℕ) (seen : Seen) → There seen → There (crashedSlot site n seen)
-unfolding crashedSlot
-there-after-crashed site n seen e =
-    there-after-change
-    (seen .visit)
-    _
-    e
-    (cond-keeps (λ (v : Visit). v .there ≡ true) (losesHome site (seen .passage) || not (seen .visit .prepared)) _ (seen .visit) e e)
 
 -- a turn stores its site back
 site-after-turn : (trip : Trip) (n s : ℕ) (o : Outcome) → n < 16 → Sound (o .tables) → siteAt (turnOf trip n o .tables) s ≡ siteAt (o .tables) s

@@ -3,11 +3,11 @@ use Prim.Native.Nat.{ℕ, _+_, _*_, _%_, _≤_, _<_}
 use native.Mathlib.Omega.{arith}
 use mathlib.Core.Path.{_≡_, refl, sym, ap, _∙_, subst}
 use mathlib.Core.Logic.{⊎-elim, _⊎_, inl, inr}
-use mathlib.Core.Bool.{Bool, true, false, cond, not, _&&_, true≢false, false≢true}
+use mathlib.Core.Bool.{true, false, cond, _&&_, true≢false, false≢true}
 use mathlib.Core.List.{List, [], _∷_, _++_}
 use lib.Dec.{eqb}
 use borrow.Author.Tests.{eq-eqb}
-use Rattle.rules.specs.LoopsLaws.{either, cond-keeps, and-left, and-right}
+use Rattle.rules.specs.LoopsLaws.{either, cond-keeps, and-left, and-right, not-true}
 use Rattle.rules.specs.Tables.{siteAt, messageAt, slotOf}
 use Rattle.rules.specs.Answers.{isAccepted}
 use Rattle.rules.specs.Machine.{lookOf, placesOf, headOf, stepOf}
@@ -90,10 +90,6 @@ module _ (t : Tables) (step : Step) (a : isAccepted (stepOf t step .answer) ≡ 
       all-up-to (Means t step) _ 4 λ i l.
       one slot (4 * placesOf t (lookOf step) .site + i) (either (isFreed t step slot (4 * placesOf t (lookOf step) .site + i)))
     where
-      not-true : (b : Bool) → not b ≡ true → b ≡ false
-      not-true true e = absurd (false≢true e)
-      not-true false e = refl
-
       one :
           (slot object : ℕ) → (isFreed t step slot object ≡ true) ⊎ (isFreed t step slot object ≡ false)
           → All (Means t step) (cond (isFreed t step slot object) (eventIn t step EventKind.Freed slot object ∷ []) [])

@@ -154,24 +154,22 @@ module _ (x s : ℕ) where
 
     -- ---- the moves
 
+    -- a round of another kind opens
+    heard-unbound : (kind : Kind) → isPrepare kind ≡ false → m ≡ w .mail k → Heard (Left (openedPassage kind (w .passage) v))
+    heard-unbound kind other e =
+        record {
+          answered = λ y. absurd (false≢true (sym other ∙ ap isPrepare y));
+          answer = λ y. absurd (false≢true (sym other ∙ ap isPrepare y));
+          tells = λ y. absurd (false≢true (sym other ∙ ap isPrepare y));
+          word = mail-word (same-word e);
+        }
+
     -- a commit round opens: nobody has answered but home, and no answer has its number
     heard-opened :
         (kind : Kind) → OpenedFrom kind (w .passage .status) → a ≡ w .passage .home → m ≡ w .mail k → Heard (Left (openedPassage kind (w .passage) v))
     heard-opened Kind.None from home e = absurd from
-    heard-opened (Kind.Refresh q r) from home e =
-        record {
-          answered = λ y. absurd (false≢true (ap isPrepare y));
-          answer = λ y. absurd (false≢true (ap isPrepare y));
-          tells = λ y. absurd (false≢true (ap isPrepare y));
-          word = mail-word (same-word e);
-        }
-    heard-opened Kind.Terminate from home e =
-        record {
-          answered = λ y. absurd (false≢true (ap isPrepare y));
-          answer = λ y. absurd (false≢true (ap isPrepare y));
-          tells = λ y. absurd (false≢true (ap isPrepare y));
-          word = mail-word (same-word e);
-        }
+    heard-opened (Kind.Refresh q r) from home e = heard-unbound (Kind.Refresh q r) refl e
+    heard-opened Kind.Terminate from home e = heard-unbound Kind.Terminate refl e
     heard-opened Kind.Prepare from home e =
         record {
           answered =

@@ -9,7 +9,7 @@ use lib.Dec.{eqb, ltb}
 use borrow.Author.Tests.{eqb-true, eq-eqb, ne-eqb, ltb-false}
 use Rattle.rules.specs.declared.looking.Trip.{Trip}
 use Rattle.rules.specs.Loops.{oneIf}
-use Rattle.rules.specs.LoopsLaws.{either, or-left, or-right, not-false, cond-keeps, and-right}
+use Rattle.rules.specs.LoopsLaws.{either, or-left, or-right, not-false, and-right}
 use Rattle.rules.specs.Tables.{start, passageAt, slotOf, generationOf, handleOf, freeSlot, pastPassage}
 use Rattle.rules.specs.Answers.{isAccepted, answerValue}
 use Rattle.rules.specs.AnswersLaws.{accepted-fine, accepted-value}
@@ -23,7 +23,7 @@ use Rattle.rules.specs.RangesLaws.{placed-places, placed-trip}
 use Rattle.rules.specs.RefusedLaws.{refused-leaves}
 use Rattle.rules.specs.Record.{rowOf, isNamed, flatOf}
 use Rattle.rules.specs.Runs.{Started, Entry, runOf, entryOf, entriesOf, historyOf}
-use Rattle.rules.specs.Views.{Generation, Handle, deedOf}
+use Rattle.rules.specs.Views.{Generation, Handle, home-generation, deedOf}
 use Rattle.runs.specs.Types.{Passage, Tables, Step, Places, Seen, Outcome, Found}
 use Rattle.runs.specs.Walk.Put.{same-or-other}
 use Rattle.runs.specs.Walk.Steps.{accepted-turned, head-accepted, run-on}
@@ -42,11 +42,6 @@ movedOn retire g = cond retire ((g + 1) % 256) g
 record MovesOn (slot : ℕ) (step : Step) (seen left : Seen) : Type 0 where
   own : left .passage .generation ≡ movedOn (retires slot step) (seen .passage .generation)
   other : (p : ℕ) → p ≢ slot → retires p step ≡ false
-
--- a change of a passage's status leaves its generation
-at-home-generation :
-    (b : Bool) (x y : Passage) (g : ℕ) → x .generation ≡ g → y .generation ≡ g → cond b x y .generation ≡ g
-at-home-generation b x y g = cond-keeps (λ (p : Passage). p .generation ≡ g) b x y
 
 -- an accepted retire moves the generation of the slot that its handle names
 retire-moves :
@@ -107,10 +102,10 @@ turned-generation (Trip.Sweep site) slot seen =
     (λ e.
     rw
     e
-    (at-home-generation (isActive (seen .passage .status) && eqb (seen .passage .home) site) (abortedPassage (seen .passage)) (seen .passage) _ refl refl))
+    (home-generation (isActive (seen .passage .status) && eqb (seen .passage .home) site) (abortedPassage (seen .passage)) (seen .passage) _ refl refl))
     (λ e. rw e)
     (either (isSwept seen))
-turned-generation (Trip.Crash site) slot seen = at-home-generation (losesHome site (seen .passage)) _ (seen .passage) _ refl refl
+turned-generation (Trip.Crash site) slot seen = home-generation (losesHome site (seen .passage)) _ (seen .passage) _ refl refl
 
 turn-generation :
     (trip : Trip) (slot : ℕ) (o : Outcome) → slot < 16 → Sound (o .tables) → (p : ℕ)

@@ -11,7 +11,7 @@ use lib.Seq.{getD-set-same, getD-set-other}
 use Rattle.rules.specs.declared.tables.Object.{Object}
 use Rattle.rules.specs.declared.looking.Trip.{Trip}
 use Rattle.rules.specs.declared.outcomes.Check.{Check}
-use Rattle.rules.specs.LoopsLaws.{either, cond-keeps}
+use Rattle.rules.specs.LoopsLaws.{either, cond-keeps, and-left, not-false}
 use Rattle.rules.specs.Tables.{pastObject, siteAt, passageAt, visitAt, bankAt, objectSite, slotOf}
 use Rattle.rules.specs.Answers.{firstOf, settleOf}
 use Rattle.rules.specs.Parts.{nextClock, isHeldBy, taken, operated, freed, restored, eachOf, toldVisit, toldObjects}
@@ -35,12 +35,12 @@ use Rattle.runs.specs.Promises.Definitions.{Promised, isWord, ThereThrou
 
 -- ---- what a decision leaves of the objects that it saw
 
--- who held one holds it, or is the step's own slot, whose visit at that site is gone
+-- who held one holds it, or is the step's own slot, whose visit at that site was there and is gone
 record Fast (t : Tables) (at : Places) (left : Seen) : Type 0 where
   holds :
       (i q : ℕ) → i < 4 → isHeldBy q (getD (bankAt t (at .bank)) i pastObject) ≡ true
       → (isHeldBy q (getD (left .objects) i pastObject) ≡ true)
-      ⊎ ((q ≡ at .slot) × ((at .bank ≡ at .site) × (left .visit .there ≡ false)))
+      ⊎ ((q ≡ at .slot) × ((at .bank ≡ at .site) × ((visitAt t (at .site) (at .slot) .there ≡ true) × (left .visit .there ≡ false))))
 
 module _ (t : Tables) (at : Places) where
   fast-after-same : (left : Seen) → left .objects ≡ bankAt t (at .bank) → Fast t at left
@@ -57,14 +57,15 @@ module _ (t : Tables) (at : Places) where
       (f : Object → Object) (left : Seen) → LetsGoOf (at .slot) f
       → left .objects ≡ eachOf f (bankAt t (at .bank))
       → at .bank ≡ at .site
+      → visitAt t (at .site) (at .slot) .there ≡ true
       → left .visit .there ≡ false
       → Fast t at left
-  let-go-fast f left law o b gone =
+  let-go-fast f left law o b was gone =
       record {
         holds =
             λ i q l e.
             ⊎-elim
-            (λ y. inr (y, (b, gone)))
+            (λ y. inr (y, (b, (was, gone))))
             (λ n.
             inl
             (ap (λ (os : List Object). isHeldBy q (getD os i pastObject)) o
@@ -78,16 +79,17 @@ module _ (t : Tables) (at : Places) where
       (told : Told) (left : Seen) → left .visit ≡ toldVisit told (visitAt t (at .site) (at .slot))
       → left .objects ≡ toldObjects told (at .slot) (bankAt t (at .bank))
       → at .bank ≡ at .site
+      → visitAt t (at .site) (at .slot) .there ≡ true
       → Fast t at left
-  fast-after-told (Told.Refresh q) left v o b = fast-after-same left o
-  fast-after-told (Told.Terminate m) left v o b = fast-after-same left o
-  fast-after-told Told.Prepare left v o b = let-go-fast (freed (at .slot)) left (freed-lets-go (at .slot)) o b (ap (λ (x : Visit). x .there) v)
+  fast-after-told (Told.Refresh q) left v o b was = fast-after-same left o
+  fast-after-told (Told.Terminate m) left v o b was = fast-after-same left o
+  fast-after-told Told.Prepare left v o b was = let-go-fast (freed (at .slot)) left (freed-lets-go (at .slot)) o b was (ap (λ (x : Visit). x .there) v)
 
   -- a close does it where the home visit is there
   fast-after-closed : (told : Told) (clock : ℕ) → at .bank ≡ at .site → Fast t at (closed told (at .slot) clock (seenOf t at))
   fast-after-closed told clock b =
       ⊎-elim
-      (λ e. fast-after-told told _ (rw e) (rw e) b)
+      (λ e. fast-after-told told _ (rw e) (rw e) b e)
       (λ e. fast-after-same (closed told (at .slot) clock (seenOf t at)) (rw e))
       (either (visitAt t (at .site) (at .slot) .there))
 
@@ -118,7 +120,15 @@ module _ (t : Tables) (at : Places) where
   unfolding deliverBodyOf deliverCallOf deliverPhaseOneOf deliverPhaseTwoOf
   fast-after-mail _ m (Mail.Calls c) s b = fast-after-settled _ _ _ (fast-after-called c _)
   fast-after-mail _ m (Mail.Asks n asked) s b = fast-after-settled _ _ _ (fast-after-same _ refl)
-  fast-after-mail _ m (Mail.Tells n told) s b = fast-after-settled _ _ _ (fast-after-told told _ refl (rw s) b)
+  fast-after-mail _ m (Mail.Tells n told) s b =
+      settled
+      (Fast t at)
+      _
+      _
+      (seenOf t at)
+      _
+      (λ g. fast-after-told told _ refl (rw s) b (not-false _ (g .there)))
+      (fast-after-same (seenOf t at) refl)
   fast-after-mail _ m (Mail.Quiet body objects visit) s b = fast-after-same _ (objects m (seenOf t at))
 
   -- one slot of a sweep, and one of a crash
@@ -127,12 +137,12 @@ module _ (t : Tables) (at : Places) where
   fast-after-turned Trip.Nowhere b = fast-after-same (seenOf t at) refl
   fast-after-turned (Trip.Sweep site) b =
       ⊎-elim
-      (λ e. rw e (let-go-fast (restored (at .slot)) _ (restored-lets-go (at .slot)) refl b refl))
+      (λ e. rw e (let-go-fast (restored (at .slot)) _ (restored-lets-go (at .slot)) refl b (and-left _ _ (and-left _ _ e)) refl))
       (λ e. rw e (fast-after-same (seenOf t at) refl))
       (either (isSwept (seenOf t at)))
   fast-after-turned (Trip.Crash site) b = fast-after-same (crashedSlot site (at .slot) (seenOf t at)) refl
 
--- neither makes a visit
+-- neither a sweep nor a crash makes a visit
 turned-gone : (trip : Trip) (n : ℕ) (seen : Seen) → seen .visit .there ≡ false → turnSeen trip n seen .visit .there ≡ false
 unfolding sweptSlot crashedSlot
 turned-gone Trip.Nowhere n seen e = e
@@ -159,9 +169,16 @@ module _ (k p : ℕ) (slot : p < 16) where
   abbrev pub HeldOrGone : Tables → Type 0
   HeldOrGone t = (isHolding t p k ≡ true) ⊎ (visitAt t (objectSite k) p .there ≡ false)
 
+  -- p holds the object after, or had a visit at its site before and has none after
+  abbrev pub HeldOrLeft : Tables → Tables → Type 0
+  HeldOrLeft t u = (isHolding u p k ≡ true) ⊎ ((visitAt t (objectSite k) p .there ≡ true) × (visitAt u (objectSite k) p .there ≡ false))
+
+  held-or-gone : (t u : Tables) → HeldOrLeft t u → HeldOrGone u
+  held-or-gone t u = ⊎-elim (λ e. inl e) (λ x. inr (x .1))
+
   fast-after-stored :
       (t : Tables) (at : Places) (left : Seen) → Sized t → Placed at → Fast t at left → isHolding t p k ≡ true
-      → HeldOrGone (stored t at left)
+      → HeldOrLeft t (stored t at left)
   fast-after-stored t at left z h f e =
       ⊎-elim
       (λ (b : objectSite k ≡ at .bank).
@@ -174,25 +191,40 @@ module _ (k p : ℕ) (slot : p < 16) where
       (λ n. inl (ap (isHeldBy p) (object-after-stored-other t at left k n) ∙ e))
       (same-or-other (objectSite k) (at .bank))
 
-  fast-after-turn :
-      (trip : Trip) (n : ℕ) (o : Outcome) → n < 16 → Sound (o .tables) → HeldOrGone (o .tables)
-      → HeldOrGone (turnOf trip n o .tables)
-  fast-after-turn trip n o l z h =
+  -- one turn of a sweep or a crash
+  pub left-after-turn :
+      (trip : Trip) (n : ℕ) (o : Outcome) → n < 16 → Sound (o .tables) → isHolding (o .tables) p k ≡ true
+      → HeldOrLeft (o .tables) (turnOf trip n o .tables)
+  left-after-turn trip n o l z e =
       let at : Places = tripPlaces trip n in
       rw
       (turn-stored trip n o)
-      (⊎-elim
-      (λ e. fast-after-stored (o .tables) at _ (z .sized) (placed-trip trip n l) (fast-after-turned (o .tables) at trip refl) e)
-      (λ e.
-      inr
+      (fast-after-stored (o .tables) at _ (z .sized) (placed-trip trip n l) (fast-after-turned (o .tables) at trip refl) e)
+
+  -- neither makes a visit
+  pub gone-after-turn :
+      (trip : Trip) (n : ℕ) (o : Outcome) → n < 16 → Sound (o .tables) → visitAt (o .tables) (objectSite k) p .there ≡ false
+      → visitAt (turnOf trip n o .tables) (objectSite k) p .there ≡ false
+  gone-after-turn trip n o l z e =
+      let at : Places = tripPlaces trip n in
+      rw
+      (turn-stored trip n o)
       (stored-has (λ v. v .there ≡ false) (o .tables) at _ (z .sized) (placed-trip trip n l) (objectSite k) p slot
       (λ a b. turned-gone trip n (seenOf (o .tables) at) (subst₂ (λ (x y : ℕ). visitAt (o .tables) x y .there ≡ false) a b e))
-      e))
-      h)
+      e)
 
-  fast-after-head : (t : Tables) (step : Step) → Sound t → isHolding t p k ≡ true → HeldOrGone (headOf t step .tables)
+  fast-after-turn :
+      (trip : Trip) (n : ℕ) (o : Outcome) → n < 16 → Sound (o .tables) → HeldOrGone (o .tables)
+      → HeldOrGone (turnOf trip n o .tables)
+  fast-after-turn trip n o l z =
+      ⊎-elim
+      (λ e. held-or-gone (o .tables) (turnOf trip n o .tables) (left-after-turn trip n o l z e))
+      (λ e. inr (gone-after-turn trip n o l z e))
+
+  -- a step's own store
+  pub left-after-head : (t : Tables) (step : Step) → Sound t → isHolding t p k ≡ true → HeldOrLeft t (headOf t step .tables)
   unfolding headOf
-  fast-after-head t step z e = fast-after-stored t (placesOf t (lookOf step)) _ (z .sized) (placed-places t (lookOf step)) (fast-after-decided t step _) e
+  left-after-head t step z e = fast-after-stored t (placesOf t (lookOf step)) _ (z .sized) (placed-places t (lookOf step)) (fast-after-decided t step _) e
 
   -- in any tables: after every step the slot that held the object holds it, or has no visit at its site
   pub let-go-with-visit :
@@ -206,7 +238,7 @@ module _ (k p : ℕ) (slot : p < 16) where
       z
       (λ n u. HeldOrGone u)
       (fast-after-turn (lookOf step .trip))
-      (λ a. fast-after-head t step z e)
+      (λ a. held-or-gone t (headOf t step .tables) (left-after-head t step z e))
       HeldOrGone
       (inl e)
       (λ u y. y)

@@ -13,7 +13,7 @@ use Rattle.rules.specs.LoopsLaws.{either, cond-keeps}
 use Rattle.rules.specs.Tables.{passageAt, visitAt, messageAt, slotOf}
 use Rattle.rules.specs.Answers.{isAccepted, firstOf, settleOf}
 use Rattle.rules.specs.Parts.{whereThere, toldOf, toldVisit}
-use Rattle.rules.specs.Stations.{sweptSlot, losesHome, crashedSlot}
+use Rattle.rules.specs.Stations.{sweepOf, sweptSlot, losesHome, crashedSlot}
 use Rattle.rules.specs.Passages.{beginOf, abortOf}
 use Rattle.rules.specs.Rounds.{openOf, terminateOf, prepareOf, closeOf}
 use Rattle.rules.specs.Calls.{deliverCallOf, deliverPhaseOneOf, deliverPhaseTwoOf, deliverBodyOf}
@@ -22,10 +22,11 @@ use Rattle.rules.specs.StoredLaws.{Sized, Placed, visit-place-same, visit-after
 use Rattle.rules.specs.RangesLaws.{placed-places, placed-trip}
 use Rattle.rules.specs.RefusedLaws.{refused-leaves}
 use Rattle.rules.specs.Runs.{Started, runOf}
-use Rattle.rules.specs.Views.{settled, Marks, Mail, mailDeed, deedOf}
+use Rattle.rules.specs.Views.{settled, Marks, Mail, mailDeed, Goes, deedOf}
 use Rattle.runs.specs.Types.{Kind, Visit, Told, Body, Tables, Step, Places, Seen, Outcome, Found}
 use Rattle.runs.specs.Walk.Says.{isPrepare, tellsPrepare, carriesCommit}
 use Rattle.runs.specs.Walk.Put.{same-or-other}
+use Rattle.runs.specs.Walk.Steps.{placesAt, seenAt}
 use Rattle.runs.specs.Kept.Times.{asked-says}
 use Rattle.runs.specs.Walk.Sound.{Sound, sound-run, sound-step-has}
 use Rattle.runs.specs.Promises.Definitions.{Promised, isWord}
@@ -48,11 +49,15 @@ firm-there Trip.Nowhere v e = e
 firm-there (Trip.Sweep site) v e = e .0
 firm-there (Trip.Crash site) v e = e
 
+-- the visit is there
+abbrev pub There : Seen → Type 0
+There s = s .visit .there ≡ true
+
 -- a decision leaves what was decided, or what was seen
-firm-after-settled :
-    (trip : Trip) (cs : List Check) (v : ℕ) (seen left : Seen) → Firm trip (left .visit) → Firm trip (seen .visit)
-    → Firm trip (settleOf (record { answer = firstOf cs v; left = left }) seen .left .visit)
-firm-after-settled trip cs v seen left e = settled (λ (x : Seen). Firm trip (x .visit)) cs v seen left (λ g. e)
+there-after-settled :
+    (cs : List Check) (v : ℕ) (seen left : Seen) → There left → There seen
+    → There (settleOf (record { answer = firstOf cs v; left = left }) seen .left)
+there-after-settled cs v seen left e = settled There cs v seen left (λ g. e)
 
 -- a rule that changes a visit and leaves it there
 there-after-change : (v changed : Visit) → v .there ≡ true → changed .there ≡ true → whereThere v changed .there ≡ true
@@ -65,62 +70,73 @@ closed-there (Kind.Refresh q r) m v e f = e
 closed-there Kind.Terminate m v e f = e
 closed-there Kind.Prepare m v e f = absurd (true≢false f)
 
+-- and so does a phase 2 message that is no commit's
 told-there : (told : Told) (v : Visit) → v .there ≡ true → tellsPrepare told ≡ false → toldVisit told v .there ≡ true
 told-there (Told.Refresh q) v e f = e
 told-there (Told.Terminate m) v e f = e
 told-there Told.Prepare v e f = absurd (true≢false f)
 
+-- and so does every message that is no word of a commit
 mail-there :
     (body : Body) (m : ℕ) (seen : Seen) → Mail body → seen .visit .there ≡ true → carriesCommit body ≡ false
     → deliverBodyOf body m seen .left .visit .there ≡ true
 unfolding deliverBodyOf deliverCallOf deliverPhaseOneOf deliverPhaseTwoOf
 mail-there _ m seen (Mail.Calls c) e f =
-    firm-after-settled Trip.Nowhere _ _ seen _ (cond-keeps (λ (v : Visit). v .there ≡ true) (seen .visit .there) (seen .visit) _ e refl) e
+    there-after-settled _ _ seen _ (cond-keeps (λ (v : Visit). v .there ≡ true) (seen .visit .there) (seen .visit) _ e refl) e
 mail-there _ m seen (Mail.Asks n asked) e f =
-    firm-after-settled Trip.Nowhere _ _ seen _ (asked-says asked n _ (seen .visit) .there ∙ e) e
-mail-there _ m seen (Mail.Tells n told) e f = firm-after-settled Trip.Nowhere _ _ seen _ (told-there told (seen .visit) e f) e
+    there-after-settled _ _ seen _ (asked-says asked n _ (seen .visit) .there ∙ e) e
+mail-there _ m seen (Mail.Tells n told) e f = there-after-settled _ _ seen _ (told-there told (seen .visit) e f) e
 mail-there _ m seen (Mail.Quiet body objects visit) e f = ap (λ (v : Visit). v .there) (visit m seen) ∙ e
 
 -- at its own slot and site, a step that is no word
 pub word-here : (a b : ℕ) (c : Bool) → (eqb a a && eqb b b && c) ≡ false → c ≡ false
 word-here a b c f = rw (eq-eqb a a refl, eq-eqb b b refl) at f
 
--- what a step leaves there, and prepared where it goes on to sweep
-firm-after-marked :
-    (t : Tables) (step : Step) (found : Found) → Marks step → Promised t (placesOf t (lookOf step) .site) (placesOf t (lookOf step) .slot)
-    → isWord t (placesOf t (lookOf step) .site) (placesOf t (lookOf step) .slot) step ≡ false
-    → Firm (lookOf step .trip) (decideOf step found (seenOf t (placesOf t (lookOf step))) .left .visit)
+-- a step's own store leaves a visit there, unless it is home's word to it
+pub there-after-marked :
+    (t : Tables) (step : Step) (found : Found) → Marks step → visitAt t (placesAt t step .site) (placesAt t step .slot) .there ≡ true
+    → isWord t (placesAt t step .site) (placesAt t step .slot) step ≡ false
+    → There (decideOf step found (seenAt t step) .left)
 unfolding placesOf decideOf beginOf abortOf terminateOf prepareOf openOf closeOf
-firm-after-marked t _ found (Marks.Begins home slot q r) k f = firm-after-settled Trip.Nowhere _ _ _ _ refl (k .there)
-firm-after-marked t _ found (Marks.Terminates h) k f = firm-after-settled Trip.Nowhere _ _ _ _ (k .there) (k .there)
-firm-after-marked t _ found (Marks.Prepares h) k f = firm-after-settled Trip.Nowhere _ _ _ _ (k .there) (k .there)
-firm-after-marked t _ found (Marks.Closes h) k f =
-    firm-after-settled
-    Trip.Nowhere
+there-after-marked t _ found (Marks.Begins home slot q r) e f = there-after-settled _ _ _ _ refl e
+there-after-marked t _ found (Marks.Terminates h) e f = there-after-settled _ _ _ _ e e
+there-after-marked t _ found (Marks.Prepares h) e f = there-after-settled _ _ _ _ e e
+there-after-marked t _ found (Marks.Closes h) e f =
+    let kind : Kind = passageAt t (slotOf h) .round .kind in
+    there-after-settled
     _
     _
     _
     _
-    (there-after-change _ _ (k .there) (closed-there (passageAt t (slotOf h) .round .kind) _ _ (k .there) (word-here (slotOf h) (passageAt t (slotOf h) .home % 8) _ f)))
-    (k .there)
-firm-after-marked t _ found (Marks.Aborts h) k f = firm-after-settled Trip.Nowhere _ _ _ _ (there-after-change _ _ (k .there) (k .there)) (k .there)
-firm-after-marked t _ found (Marks.Delivers m) k f =
+    (there-after-change _ _ e (closed-there kind _ _ e (word-here (slotOf h) (passageAt t (slotOf h) .home % 8) _ f)))
+    e
+there-after-marked t _ found (Marks.Aborts h) e f = there-after-settled _ _ _ _ (there-after-change _ _ e e) e
+there-after-marked t _ found (Marks.Delivers m) e f =
     mail-there
     (messageAt t (m % 32) .body)
     m
     _
     (mailDeed (messageAt t (m % 32) .body))
-    (k .there)
+    e
     (word-here (slotOf (messageAt t (m % 32) .handle)) (messageAt t (m % 32) .destination % 8) _ f)
-firm-after-marked t _ found (Marks.Stay step there prepared) k f =
-    let seen = seenOf t (placesOf t (lookOf step)) in
-    firm (lookOf step .trip) (decideOf step found seen .left .visit) (there found seen ∙ k .there) (prepared found seen ∙ k .prepared)
+there-after-marked t _ found (Marks.Stay step there prepared) e f = there found (seenAt t step) ∙ e
+
+-- what a step leaves there, and prepared where it goes on to sweep
+firm-after-going :
+    (t : Tables) (step : Step) (found : Found) → Goes step → Promised t (placesAt t step .site) (placesAt t step .slot)
+    → isWord t (placesAt t step .site) (placesAt t step .slot) step ≡ false
+    → Firm (lookOf step .trip) (decideOf step found (seenAt t step) .left .visit)
+unfolding decideOf sweepOf
+firm-after-going t _ found (Goes.Sweeps site) k f =
+    settled (λ (x : Seen). Firm (Trip.Sweep site) (x .visit)) _ _ (seenAt t (Step.Sweep site)) _ (λ g. (k .there, k .prepared)) (k .there, k .prepared)
+firm-after-going t _ found (Goes.Crashes site) k f = there-after-marked t (Step.Crash site) found (deedOf (Step.Crash site) .marks) (k .there) f
+firm-after-going t _ found (Goes.Nowhere step n) k f = rw n (there-after-marked t step found (deedOf step .marks) (k .there) f)
 
 firm-after-decided :
     (t : Tables) (step : Step) (found : Found) → Promised t (placesOf t (lookOf step) .site) (placesOf t (lookOf step) .slot)
     → isWord t (placesOf t (lookOf step) .site) (placesOf t (lookOf step) .slot) step ≡ false
     → Firm (lookOf step .trip) (decideOf step found (seenOf t (placesOf t (lookOf step))) .left .visit)
-firm-after-decided t step found = firm-after-marked t step found (deedOf step .marks)
+firm-after-decided t step found = firm-after-going t step found (deedOf step .goes)
 
 -- ---- what one slot of a sweep or of a crash leaves of its visit
 
@@ -133,17 +149,22 @@ prepared-not-swept site n seen e = rw (unswept (seen .visit .there))
     unswept true = rw e
     unswept false = refl
 
--- a crash leaves every visit there; what is kept on the way is kept by each slot
+-- a crash leaves every visit there
+pub there-after-crashed : (site n : ℕ) (seen : Seen) → There seen → There (crashedSlot site n seen)
+unfolding crashedSlot
+there-after-crashed site n seen e =
+    there-after-change
+    (seen .visit)
+    _
+    e
+    (cond-keeps (λ (v : Visit). v .there ≡ true) (losesHome site (seen .passage) || not (seen .visit .prepared)) _ (seen .visit) e e)
+
+-- what is kept on the way is kept by each slot
 firm-after-turned : (trip : Trip) (n : ℕ) (seen : Seen) → Firm trip (seen .visit) → Firm trip (turnSeen trip n seen .visit)
 unfolding crashedSlot
 firm-after-turned Trip.Nowhere n seen k = k
 firm-after-turned (Trip.Sweep site) n seen k = rw (prepared-not-swept site n seen (k .1)) k
-firm-after-turned (Trip.Crash site) n seen k =
-    there-after-change
-    (seen .visit)
-    _
-    k
-    (cond-keeps (λ (v : Visit). v .there ≡ true) (losesHome site (seen .passage) || not (seen .visit .prepared)) _ (seen .visit) k k)
+firm-after-turned (Trip.Crash site) n seen k = there-after-crashed site n seen k
 
 -- ---- steps, for the visit of one slot at one site
 
