@@ -1,12 +1,11 @@
 -- What is over stays over: a passage that is committed stays committed, and one that is aborted stays aborted, until an accepted retire of its slot.
 -- And a passage becomes committed by the close of its commit round alone. Assumes nothing.
-use Prim.Native.Nat.{ℕ, suc, _%_, _≤_, _<_}
+use Prim.Native.Nat.{ℕ, _<_}
 use mathlib.Core.Path.{_≡_, refl, sym, ap, _∙_, subst}
-use mathlib.Core.Logic.{_≢_, ⊎-elim, _⊎_, inl, inr}
-use mathlib.Core.Bool.{Bool, true, false, _&&_, true≢false, false≢true}
+use mathlib.Core.Logic.{_≢_, ⊎-elim, _⊎_}
+use mathlib.Core.Bool.{true, false, _&&_, true≢false, false≢true}
 use mathlib.Core.List.{List, _++_}
 use Rattle.rules.specs.declared.looking.Trip.{Trip}
-use Rattle.rules.specs.LoopsLaws.{either}
 use Rattle.rules.specs.Tables.{passageAt}
 use Rattle.rules.specs.Answers.{isAccepted}
 use Rattle.rules.specs.Parts.{isFree, isRunning, isOver, isClosed, largestQuiesce, askedOf, askedStatus, toldOf, toldStatus}
@@ -15,18 +14,17 @@ use Rattle.rules.specs.Machine.{lookOf, seenOf, decideOf, foundOf, headOf, trip
 use Rattle.rules.specs.StoredLaws.{turn-stored}
 use Rattle.rules.specs.RangesLaws.{placed-places, placed-trip}
 use Rattle.rules.specs.Runs.{Started, runOf, historyOf}
-use Rattle.runs.specs.Types.{Kind, Phase, Round, Status, Passage, Visit, Asked, Told, Message, Tables, Step, Outcome}
-use Rattle.runs.specs.Walk.Says.{isBinding, isPrepare}
+use Rattle.runs.specs.Types.{Kind, Phase, Status, Passage, Visit, Asked, Message, Tables, Step, Outcome}
+use Rattle.runs.specs.Walk.Says.{isPrepare}
 use Rattle.runs.specs.Walk.Steps.{placesAt, seenAt, run-on}
 use Rattle.runs.specs.Walk.Sound.{Sound, sound-step-has}
-use Rattle.runs.specs.Times.View.{View, Ledger, viewOf}
+use Rattle.runs.specs.Times.View.{View, Ledger}
 use Rattle.runs.specs.Times.Ledgers.{ledgersOf}
-use Rattle.runs.specs.Times.Store.{leftView}
 use Rattle.runs.specs.Orphans.Orphans.{retires, isRetired}
 use Rattle.runs.specs.Promises.Standing.{passage-has}
 use Rattle.runs.specs.Moves.Definitions.{OpenedFrom, Move, Turn}
 use Rattle.runs.specs.Moves.Steps.{move-of, turn-of}
-use Rattle.runs.specs.Commits.Vow.{RoundFor, RoundFits, Vow}
+use Rattle.runs.specs.Commits.Vow.{RoundFor, RoundFits}
 use Rattle.runs.specs.Commits.VowLaws.{none-not-one, one-not-two, aborted-not-committed, active-runs}
 use Rattle.runs.specs.Commits.Pledged.{Pledged, pledged-run}
 use Rattle.runs.specs.Commits.Since.{Carries, run-carried, step-carried}

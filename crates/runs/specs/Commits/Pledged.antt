@@ -10,18 +10,18 @@ use Rattle.rules.specs.Tables.{start, passageAt, messageAt, pastPassage, freeSl
 use Rattle.rules.specs.Stations.{isSwept, sweptSlot, crashedSlot}
 use Rattle.rules.specs.Answers.{isAccepted}
 use Rattle.rules.specs.Parts.{isFree}
-use Rattle.rules.specs.Machine.{lookOf, placesOf, seenOf, decideOf, foundOf, stored, headOf, tripPlaces, turnSeen, turnOf, stepOf}
+use Rattle.rules.specs.Machine.{lookOf, seenOf, decideOf, foundOf, stored, headOf, tripPlaces, turnSeen, turnOf, stepOf}
 use Rattle.rules.specs.StoredLaws.{Sized, Placed, turn-stored}
 use Rattle.rules.specs.RangesLaws.{placed-places, placed-trip}
 use Rattle.rules.specs.Runs.{Started, runOf}
-use Rattle.runs.specs.Types.{Status, Passage, Body, Message, Tables, Step, Outcome, Places, Seen}
+use Rattle.runs.specs.Types.{Status, Passage, Tables, Step, Outcome, Places, Seen}
 use Rattle.runs.specs.Walk.Says.{carriesCommit, isPrepare}
 use Rattle.runs.specs.Walk.Plain.{repeat-has}
 use Rattle.runs.specs.Walk.Put.{put-all}
 use Rattle.runs.specs.Walk.Steps.{placesAt, seenAt, ghostStep, good-after-step, good-after-run}
-use Rattle.runs.specs.Times.View.{View, Ledger, mailOf, viewOf, noLedger}
+use Rattle.runs.specs.Times.View.{Ledger, mailOf, viewOf, noLedger}
 use Rattle.runs.specs.Times.Clauses.{Holds}
-use Rattle.runs.specs.Times.Store.{leftView, nextLedger, nextLedgers, Fitting, mail-after-other, own-view, other-view, holds-after-fitting}
+use Rattle.runs.specs.Times.Store.{leftView, nextLedger, nextLedgers, Fitting, mail-after-other, own-view, other-view}
 use Rattle.runs.specs.Times.Ledgers.{headLedgers, turnLedgers, ledgersOf, Kept, fitting-after-decided, fitting-after-turned, kept-after-head, kept-after-turn, kept-at-start}
 use Rattle.runs.specs.Moves.Definitions.{isAnswer}
 use Rattle.runs.specs.Moves.Steps.{move-of, turn-of}

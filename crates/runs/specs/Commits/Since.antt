@@ -1,15 +1,13 @@
 -- How something that is true of a passage at one moment is carried along a run until its slot is retired: by every move and every turn.
 -- The idea: a store for another slot is a move in which this slot rests. Assumes nothing.
-use Prim.Native.Nat.{ℕ, suc, _%_, _≤_, _<_}
-use native.Mathlib.Omega.{arith}
+use Prim.Native.Nat.{ℕ, _%_, _≤_, _<_}
 use mathlib.Core.Path.{_≡_, refl, sym, ap, _∙_, subst, subst₂}
-use mathlib.Core.Logic.{_≢_, ⊎-elim, _⊎_, inl, inr}
-use mathlib.Core.Bool.{Bool, true, false, cond, _&&_, _||_, true≢false, false≢true}
+use mathlib.Core.Logic.{_≢_, ⊎-elim, _⊎_, inl}
+use mathlib.Core.Bool.{Bool, true, false, cond, _&&_, _||_, true≢false}
 use mathlib.Core.List.{List, [], _∷_}
-use lib.Dec.{eqb}
 use borrow.Author.Tests.{eq-eqb}
 use Rattle.rules.specs.declared.looking.Trip.{Trip}
-use Rattle.rules.specs.LoopsLaws.{either, cond-keeps, and-left, and-right, or-left, or-right}
+use Rattle.rules.specs.LoopsLaws.{either, cond-keeps, or-left, or-right}
 use Rattle.rules.specs.Tables.{siteAt, passageAt, messageAt, slotOf}
 use Rattle.rules.specs.Answers.{isAccepted}
 use Rattle.rules.specs.Parts.{isFree, abortedPassage, askedOf, askedStatus, toldStatus}
@@ -33,7 +31,7 @@ use Rattle.runs.specs.Times.Store.{leftView, nextLedgers, nextLedger, Fi
 use Rattle.runs.specs.Times.Ledgers.{headLedgers, turnLedgers, fitting-after-decided, fitting-after-turned}
 use Rattle.runs.specs.Orphans.Orphans.{retires, isRetired}
 use Rattle.runs.specs.Events.HoldSteps.{and-false}
-use Rattle.runs.specs.Moves.Definitions.{Alike, Move, Turn}
+use Rattle.runs.specs.Moves.Definitions.{Move, Turn}
 use Rattle.runs.specs.Moves.Steps.{MoveAt, move-of, turn-of}
 use Rattle.runs.specs.Commits.Vow.{Vow}
 use Rattle.runs.specs.Commits.Pledged.{Pledged, turned-message, pledged-after-head, pledged-after-turn}

@@ -1,25 +1,25 @@
 -- Every move keeps the vow. The idea: what a commit round has bound is let go by home's word alone, and home gives its word once. Assumes nothing.
-use Prim.Native.Nat.{ℕ, _+_, _<_, _≤_}
+use Prim.Native.Nat.{ℕ, _+_, _<_}
 use native.Mathlib.Omega.{arith}
 use mathlib.Core.Path.{_≡_, refl, sym, ap, _∙_, subst}
 use mathlib.Core.Logic.{_≢_, ⊎-elim, _⊎_, inl, inr}
-use mathlib.Core.Bool.{Bool, true, false, cond, not, true≢false, false≢true}
+use mathlib.Core.Bool.{Bool, true, false, cond, true≢false, false≢true}
 use Rattle.rules.specs.declared.looking.Trip.{Trip}
 use Rattle.rules.specs.LoopsLaws.{either, cond-keeps}
-use Rattle.rules.specs.Tables.{noVisit, noRound, noMessage}
-use Rattle.rules.specs.Parts.{isFree, isActive, isRunning, isAborted, isPhaseOne, isPhaseTwo, isClosed, hasAnswered, abortedPassage, quieted, newVisit, whereThere, askedOf, askedVisit, toldVisit, toldOf, toldStatus, largestQuiesce}
+use Rattle.rules.specs.Tables.{noRound, noMessage}
+use Rattle.rules.specs.Parts.{isRunning, isClosed, abortedPassage, quieted, whereThere, askedOf, askedVisit, toldVisit, toldOf, toldStatus, largestQuiesce}
 use Rattle.rules.specs.Rounds.{roundTold, openedPassage, closedPassage}
 use Rattle.rules.specs.Calls.{calledVisit}
 use Rattle.runs.specs.Types.{Kind, Phase, Status, Passage, Visit, Call, Asked, Told, Body, Message, Step}
-use Rattle.runs.specs.Walk.Says.{isRefresh, isBinding, isPrepare, bodyKind, tellsPrepare, carriesCommit}
+use Rattle.runs.specs.Walk.Says.{isPrepare, carriesCommit}
 use Rattle.runs.specs.Walk.Plain.{when-true, when-false}
 use Rattle.runs.specs.Walk.Put.{put, put-all}
-use Rattle.runs.specs.Times.View.{View, Past, Ledger, noLedger, ledgerNoted}
-use Rattle.runs.specs.Times.Clauses.{Quiet, Holds}
+use Rattle.runs.specs.Times.View.{View, Ledger, noLedger, ledgerNoted}
+use Rattle.runs.specs.Times.Clauses.{Holds}
 use Rattle.runs.specs.Times.Store.{leftView}
 use Rattle.runs.specs.Kept.Closing.{closing-binding}
 use Rattle.runs.specs.Kept.Times.{asked-says}
-use Rattle.runs.specs.Moves.Definitions.{Alike, isAnswer, Plain, OpenedFrom, Move, Turn}
+use Rattle.runs.specs.Moves.Definitions.{isAnswer, Plain, OpenedFrom, Move, Turn}
 use Rattle.runs.specs.Moves.Laws.{sites-after, where-is, where-not}
 use Rattle.runs.specs.Commits.Vow.{RoundFor, RoundFits, Vow}
 use Rattle.runs.specs.Commits.VowLaws.{one-not-two, none-not-one, none-not-two, prepare-says, committed-tells, running-not-committed, aborted-not-committed, active-runs, telling-commits}

@@ -1,11 +1,10 @@
 -- Home's word is that of a committed passage: after the close of its commit round, and after every delivery of its word, the passage is committed. Assumes nothing.
 use Prim.Native.Nat.{ℕ, _%_, _<_}
 use mathlib.Core.Path.{_≡_, refl, sym, ap, _∙_, subst}
-use mathlib.Core.Logic.{⊎-elim}
-use mathlib.Core.Bool.{Bool, true, false, cond, not, _&&_, true≢false, false≢true}
+use mathlib.Core.Bool.{true, false, _&&_, false≢true}
 use lib.Dec.{eqb}
-use borrow.Author.Tests.{eqb-true, eq-eqb}
-use Rattle.rules.specs.LoopsLaws.{either, and-left, and-right, not-false}
+use borrow.Author.Tests.{eqb-true}
+use Rattle.rules.specs.LoopsLaws.{and-left, and-right, not-false}
 use Rattle.rules.specs.Tables.{passageAt, messageAt, slotOf}
 use Rattle.rules.specs.Answers.{isAccepted}
 use Rattle.rules.specs.AnswersLaws.{accepted-fine, settle-accepted}
@@ -14,14 +13,13 @@ use Rattle.rules.specs.Rounds.{closeOf, closeDone}
 use Rattle.rules.specs.Machine.{lookOf, placesOf, decideOf, headOf, stepOf}
 use Rattle.rules.specs.RangesLaws.{placed-places}
 use Rattle.rules.specs.StoredLaws.{passage-after-stored}
-use Rattle.rules.specs.Record.{flatOf, isStep}
 use Rattle.rules.specs.Views.{Objects, deedOf}
-use Rattle.runs.specs.Types.{Kind, Phase, Status, Passage, Body, Message, Tables, Step, Seen}
-use Rattle.runs.specs.Walk.Says.{isPrepare, carriesCommit}
+use Rattle.runs.specs.Types.{Kind, Phase, Status, Body, Message, Tables, Step, Seen}
+use Rattle.runs.specs.Walk.Says.{carriesCommit}
 use Rattle.runs.specs.Walk.Steps.{placesAt, seenAt, head-accepted}
 use Rattle.runs.specs.Events.HoldSteps.{and-false}
 use Rattle.runs.specs.Operations.Single.{decisionAt, decision-accepted, single-stored}
-use Rattle.runs.specs.Times.View.{Ledger, mailOf, viewOf}
+use Rattle.runs.specs.Times.View.{Ledger, viewOf}
 use Rattle.runs.specs.Times.Store.{own-mail}
 use Rattle.runs.specs.Fits.Close.{one-says}
 use Rattle.runs.specs.Promises.Definitions.{isWord}

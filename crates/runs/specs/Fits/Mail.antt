@@ -92,7 +92,7 @@ fitting-after-ask t h site place fine =
 two-kind : (k : Kind) (p : Phase) → phaseFits k p ≡ true → p ≡ Phase.Two → k ≢ Kind.None
 two-kind k p f e n = false≢true (rw (n, e) at f)
 
-two-says : (p : Phase) → isPhaseTwo p ≡ true → p ≡ Phase.Two
+pub two-says : (p : Phase) → isPhaseTwo p ≡ true → p ≡ Phase.Two
 two-says Phase.None e = absurd (false≢true e)
 two-says Phase.One e = absurd (false≢true e)
 two-says Phase.Two e = refl

@@ -1,22 +1,20 @@
 -- What the moves have in common: what a slot's ledger says after a store, that no visit is made twice, and that a quiesce time never comes down below the clock. Assumes nothing.
-use Prim.Native.Nat.{ℕ, _<_, _≤_, min}
+use Prim.Native.Nat.{ℕ, _<_, _≤_}
 use native.Mathlib.Omega.{arith}
-use mathlib.Core.Path.{_≡_, refl, sym, ap, _∙_, subst}
-use mathlib.Core.Logic.{_≢_, ⊎-elim, _⊎_, inl, inr}
-use mathlib.Core.Bool.{Bool, true, false, cond, true≢false, false≢true}
+use mathlib.Core.Path.{_≡_, refl, sym, ap, _∙_}
+use mathlib.Core.Logic.{_≢_, ⊎-elim, _⊎_}
+use mathlib.Core.Bool.{Bool, true, false, cond, false≢true}
 use Rattle.rules.specs.declared.looking.Trip.{Trip}
 use Rattle.rules.specs.LoopsLaws.{either, cond-keeps}
-use Rattle.rules.specs.Tables.{noVisit}
-use Rattle.rules.specs.Parts.{isFree, whereThere, quieted, askedVisit, toldVisit, askedOf}
+use Rattle.rules.specs.Parts.{whereThere, quieted, askedVisit, toldVisit, askedOf}
 use Rattle.rules.specs.Rounds.{roundTold}
-use Rattle.runs.specs.Types.{Kind, Status, Passage, Visit, Asked, Told, Message, Step}
+use Rattle.runs.specs.Types.{Passage, Visit, Asked, Told, Message, Step}
 use Rattle.runs.specs.Walk.Plain.{when-true, when-false}
-use Rattle.runs.specs.Walk.Put.{put, put-same, put-other, put-all, same-or-other}
-use Rattle.runs.specs.Times.View.{View, Past, Ledger, noLedger, ledgerNoted, notedPast, relast, firstSeen}
+use Rattle.runs.specs.Walk.Put.{put, put-same, put-other, same-or-other}
+use Rattle.runs.specs.Times.View.{View, Past, Ledger, ledgerNoted, notedPast, relast, firstSeen}
 use Rattle.runs.specs.Times.Clauses.{Holds}
 use Rattle.runs.specs.Kept.Calls.{never-twice}
-use Rattle.runs.specs.Kept.Times.{asked-says}
-use Rattle.runs.specs.Moves.Definitions.{Alike, Move, Turn}
+use Rattle.runs.specs.Moves.Definitions.{Move, Turn}
 
 -- ---- the ledger after a store
 

@@ -4,9 +4,9 @@ use Prim.Native.Nat.{ℕ, _+_, _%_, _<_, _≤_}
 use native.Mathlib.Omega.{arith}
 use mathlib.Core.Path.{_≡_, refl, sym, ap, _∙_, subst}
 use mathlib.Core.Logic.{_≢_, ⊎-elim, inl, inr}
-use mathlib.Core.Bool.{Bool, true, false, cond, not, _&&_, _||_, true≢false, false≢true}
+use mathlib.Core.Bool.{Bool, true, false, not, _&&_, _||_, true≢false, false≢true}
 use lib.Dec.{eqb, leb}
-use borrow.Author.Tests.{leb-false, eqb-true, ne-eqb}
+use borrow.Author.Tests.{leb-false, eqb-true}
 use Rattle.rules.specs.declared.looking.MailAt.{MailAt}
 use Rattle.rules.specs.declared.looking.Trip.{Trip}
 use Rattle.rules.specs.LoopsLaws.{either, cond-keeps, and-left, and-right, or-left, or-right, not-false, not-true}
@@ -14,22 +14,21 @@ use Rattle.rules.specs.Tables.{siteAt, passageAt, visitAt, messageAt, noMessage
 use Rattle.rules.specs.Ranges.{inRange}
 use Rattle.rules.specs.Answers.{isAccepted, settleOf}
 use Rattle.rules.specs.AnswersLaws.{Fine, accepted-fine, settle-accepted}
-use Rattle.rules.specs.Checks.{badSite, badHandle, badTimes}
-use Rattle.rules.specs.Parts.{isFree, isActive, isRunning, isAborted, isPhaseOne, isPhaseTwo, isEmpty, hasAnswered, largestQuiesce, toldOf, withStatus, askedVisit, askedStatus, toldVisit, toldStatus, asksLife, tellsLife, plainMessage, answerMessage}
+use Rattle.rules.specs.Checks.{badHandle, badTimes}
+use Rattle.rules.specs.Parts.{isFree, isActive, isRunning, isAborted, isPhaseOne, isPhaseTwo, isEmpty, largestQuiesce, toldOf, askedVisit, asksLife, tellsLife, plainMessage, answerMessage}
 use Rattle.rules.specs.Stations.{tickOf, tickDone, sweepOf, sweepDone, isSwept, sweptSlot, crashOf, crashDone, losesHome, crashedSlot, recoverOf, recoverDone}
 use Rattle.rules.specs.Passages.{beginOf, beginDone, abortOf, abortDone, retireOf, retireDone}
-use Rattle.rules.specs.Rounds.{openChecks, openOf, openDone, refreshOf, terminateOf, prepareOf, askOf, askDone, askBody, closeOf, closeDone, tellChecks, tellOf, tellDone, tellBody}
-use Rattle.rules.specs.Calls.{mailClock, calledVisit, callChecks, callDone, roundChecks, atHome, replyOf, phaseOneDone, phaseTwoDone, answerChecks, answerDone, invokeOf, invokeDone, emptyOf, deliverCallOf, deliverPhaseOneOf, deliverPhaseTwoOf, deliverAnswerOf, deliverBodyOf, dropOf, dropDone}
-use Rattle.rules.specs.Machine.{looksHome, lookOf, placesOf, seenOf, slotSeen, decideOf, foundOf, slotPlaces, tripPlaces, turnSeen, isMessageOf}
-use Rattle.runs.specs.Types.{Kind, Phase, Status, Passage, Visit, Call, Asked, Told, Body, Message, Tables, Step, Places, Seen, Decision}
+use Rattle.rules.specs.Rounds.{openChecks, openOf, openDone, refreshOf, terminateOf, prepareOf, askOf, askDone, closeOf, closeDone, tellChecks, tellOf, tellDone, tellBody}
+use Rattle.rules.specs.Calls.{mailClock, calledVisit, callChecks, callDone, roundChecks, atHome, phaseOneDone, phaseTwoDone, answerChecks, answerDone, invokeOf, invokeDone, emptyOf, deliverCallOf, deliverPhaseOneOf, deliverPhaseTwoOf, deliverAnswerOf, deliverBodyOf, dropOf, dropDone}
+use Rattle.rules.specs.Machine.{looksHome, placesOf, seenOf, decideOf, foundOf, slotPlaces, tripPlaces, turnSeen, isMessageOf}
+use Rattle.runs.specs.Types.{Kind, Phase, Status, Visit, Call, Asked, Told, Body, Message, Tables, Step, Places, Seen, Decision}
 use Rattle.runs.specs.Walk.Says.{isPrepare, tellsPrepare, carriesCommit}
-use Rattle.runs.specs.Walk.Plain.{when-false}
 use Rattle.runs.specs.Walk.Steps.{placesAt, seenAt}
-use Rattle.runs.specs.Times.View.{View, Ledger, mailOf, viewOf}
+use Rattle.runs.specs.Times.View.{Ledger, mailOf, viewOf}
 use Rattle.runs.specs.Times.Clauses.{Holds}
-use Rattle.runs.specs.Times.Store.{own-mail, own-body}
 use Rattle.runs.specs.Fits.Life.{free-says}
 use Rattle.runs.specs.Fits.Close.{one-says}
+use Rattle.runs.specs.Fits.Mail.{two-says}
 use Rattle.runs.specs.Fits.Deliver.{deliverAt, letter-seen, letter-body, letter-here, letter-away, deliver-own, deliver-here, deliver-in}
 use Rattle.runs.specs.Moves.Definitions.{Alike, isAnswer, Plain, OpenedFrom, Move, Turn}
 
@@ -58,11 +57,6 @@ aborted-says Status.Active e = absurd (false≢true e)
 aborted-says Status.Committing e = absurd (false≢true e)
 aborted-says Status.Aborted e = refl
 aborted-says Status.Committed e = absurd (false≢true e)
-
-two-says : (p : Phase) → isPhaseTwo p ≡ true → p ≡ Phase.Two
-two-says Phase.None e = absurd (false≢true e)
-two-says Phase.One e = absurd (false≢true e)
-two-says Phase.Two e = refl
 
 alike-same : (v : Visit) → Alike v v
 alike-same v = record { there = refl; prepared = refl; round = refl; quiesce = refl; release = refl }

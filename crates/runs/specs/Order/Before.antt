@@ -5,36 +5,30 @@ use Prim.Native.Nat.{ℕ, _+_, _%_, _≤_, _<_}
 use native.Mathlib.Omega.{arith}
 use mathlib.Core.Path.{_≡_, refl, sym, ap, _∙_, subst}
 use mathlib.Core.Logic.{_≢_, ⊎-elim, _⊎_, inl, inr}
-use mathlib.Core.Bool.{Bool, true, false, cond, not, _&&_, true≢false, false≢true}
+use mathlib.Core.Bool.{true, false, cond, _&&_, false≢true}
 use lib.Dec.{eqb}
 use borrow.Author.Tests.{eqb-true}
-use Rattle.rules.specs.LoopsLaws.{either, and-left, and-right, not-false}
+use Rattle.rules.specs.LoopsLaws.{either, and-left, and-right}
 use Rattle.rules.specs.Tables.{siteAt, passageAt, visitAt, messageAt, slotOf, objectSite}
 use Rattle.rules.specs.Answers.{isAccepted}
-use Rattle.rules.specs.AnswersLaws.{accepted-fine}
-use Rattle.rules.specs.Parts.{isEmpty, isFree, isOver, isClosed, hasAnswered}
-use Rattle.rules.specs.Rounds.{closeOf}
-use Rattle.rules.specs.Machine.{lookOf, placesOf, decideOf, headOf, stepOf}
+use Rattle.rules.specs.Parts.{hasAnswered}
+use Rattle.rules.specs.Machine.{placesOf, stepOf}
 use Rattle.rules.specs.Record.{flatOf, isStep}
 use Rattle.rules.specs.Events.{isHolding}
-use Rattle.rules.specs.Views.{Objects, deedOf}
-use Rattle.runs.specs.Types.{Kind, Phase, Status, Passage, Visit, Call, Told, Body, Message, Tables, Step}
-use Rattle.runs.specs.Walk.Says.{isBinding, isPrepare, carriesCommit, tellsPrepare}
+use Rattle.runs.specs.Types.{Kind, Status, Visit, Call, Told, Body, Message, Tables, Step}
+use Rattle.runs.specs.Walk.Says.{isBinding, carriesCommit}
 use Rattle.runs.specs.Walk.Plain.{when-true, when-false}
 use Rattle.runs.specs.Walk.Clocks.{clock-adds}
-use Rattle.runs.specs.Times.View.{View, Ledger, mailOf, viewOf}
+use Rattle.runs.specs.Times.View.{Ledger, viewOf}
 use Rattle.runs.specs.Times.Clauses.{Quiet, Holds}
-use Rattle.runs.specs.Times.Store.{own-mail, own-body}
-use Rattle.runs.specs.Fits.Close.{one-says}
+use Rattle.runs.specs.Times.Store.{own-body}
 use Rattle.runs.specs.Kept.Closing.{closing-binding}
 use Rattle.runs.specs.Holders.HeldStore.{Held}
-use Rattle.runs.specs.Promises.Definitions.{isWord}
 use Rattle.runs.specs.Operations.Definitions.{mailNamed, callsFor, operates, saidQuiesce, operatedAt, StillOpen, SweptAt}
 use Rattle.runs.specs.Operations.Delivered.{delivered-after-sent}
 use Rattle.runs.specs.Operations.Operated.{nothing-after-quiesce, quiesce-after-operated, station-of-operated}
 use Rattle.runs.specs.Operations.LetGo.{let-go-by}
-use Rattle.runs.specs.Commits.Vow.{Vow}
-use Rattle.runs.specs.Commits.VowLaws.{prepare-says, committed-tells}
+use Rattle.runs.specs.Commits.VowLaws.{committed-tells}
 use Rattle.runs.specs.Commits.Pledged.{Pledged, pledged-after-step}
 use Rattle.runs.specs.Commits.Since.{Carried}
 use Rattle.runs.specs.Commits.Word.{WordOf, word-of, word-seen, committed-after-word}

@@ -1,17 +1,15 @@
 -- A visit that is gone does not come back, and its release time stays as it was, until its slot is retired. Assumes nothing.
 use Prim.Native.Nat.{ℕ, _≤_}
-use mathlib.Core.Path.{_≡_, refl, sym, ap, _∙_, subst}
+use mathlib.Core.Path.{_≡_, refl, sym, _∙_, subst}
 use mathlib.Core.Logic.{⊎-elim}
 use mathlib.Core.Bool.{true, false, true≢false, false≢true}
 use Rattle.rules.specs.LoopsLaws.{either}
 use Rattle.rules.specs.Parts.{isFree}
-use Rattle.runs.specs.Types.{Passage, Visit, Message, Step}
+use Rattle.runs.specs.Types.{Visit}
 use Rattle.runs.specs.Walk.Put.{put}
 use Rattle.runs.specs.Times.View.{View, Ledger, ledgerNoted}
 use Rattle.runs.specs.Times.Clauses.{Holds}
-use Rattle.runs.specs.Times.Store.{leftView}
 use Rattle.runs.specs.Fits.Life.{free-says}
-use Rattle.runs.specs.Moves.Definitions.{Move, Turn}
 use Rattle.runs.specs.Moves.Laws.{sites-after, made-at-unseen, turned-unmade}
 use Rattle.runs.specs.Commits.Over.{NoWay}
 use Rattle.runs.specs.Commits.Since.{Carries}

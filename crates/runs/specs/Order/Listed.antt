@@ -1,19 +1,17 @@
 -- What an event of a step's list means: an operation is an accepted delivery of a call, and what is freed was held before and not after. Assumes nothing.
-use Prim.Native.Nat.{ℕ, _+_, _*_, _%_, _≤_, _<_}
-use native.Mathlib.Omega.{arith}
+use Prim.Native.Nat.{ℕ, _+_, _*_, _%_}
 use mathlib.Core.Path.{_≡_, refl, sym, ap, _∙_, subst}
 use mathlib.Core.Logic.{⊎-elim, _⊎_, inl, inr}
-use mathlib.Core.Bool.{true, false, cond, _&&_, true≢false, false≢true}
+use mathlib.Core.Bool.{true, false, cond, false≢true}
 use mathlib.Core.List.{List, [], _∷_, _++_}
-use lib.Dec.{eqb}
 use borrow.Author.Tests.{eq-eqb}
 use Rattle.rules.specs.LoopsLaws.{either, cond-keeps, and-left, and-right, not-true}
-use Rattle.rules.specs.Tables.{siteAt, messageAt, slotOf}
+use Rattle.rules.specs.Tables.{messageAt, slotOf}
 use Rattle.rules.specs.Answers.{isAccepted}
 use Rattle.rules.specs.Machine.{lookOf, placesOf, headOf, stepOf}
-use Rattle.rules.specs.Record.{flatOf, isStep}
-use Rattle.rules.specs.Events.{EventKind, Event, eventIn, isHolding, tookOf, operatedOf, bodyEvents, isFreed, freedBy, freedOf, eventsOf}
-use Rattle.runs.specs.Types.{Call, Body, Message, Tables, Step}
+use Rattle.rules.specs.Record.{flatOf}
+use Rattle.rules.specs.Events.{EventKind, Event, eventIn, isHolding, tookOf, bodyEvents, isFreed, freedBy, freedOf, eventsOf}
+use Rattle.runs.specs.Types.{Call, Body, Tables, Step}
 use Rattle.runs.specs.Walk.Steps.{head-accepted}
 use Rattle.runs.specs.Holders.HeldStore.{Held}
 use Rattle.runs.specs.Events.Uses.{All, PassageEvent, withUses, frees}
@@ -21,7 +19,7 @@ use Rattle.runs.specs.Events.HoldSteps.{Did, Takes, took, let-go, idle, 
 use Rattle.runs.specs.Events.HoldStores.{leftBy}
 use Rattle.runs.specs.Events.EventsLaws.{refused-no-event, acting-events, idle-no-event}
 use Rattle.runs.specs.Events.EventsInPlace.{all-joined, all-up-to}
-use Rattle.runs.specs.Operations.Definitions.{callsFor, operates}
+use Rattle.runs.specs.Operations.Definitions.{operates}
 use Rattle.runs.specs.Order.Definitions.{Among, InOrder, operated}
 
 -- ---- lists

@@ -5,21 +5,20 @@ use native.Mathlib.Omega.{arith}
 use mathlib.Core.Path.{_≡_, refl, sym, ap, _∙_, subst}
 use mathlib.Core.Logic.{_≢_, ⊎-elim, _⊎_, inl, inr}
 use mathlib.Core.Bool.{Bool, true, false, cond, true≢false, false≢true}
-use borrow.Author.Tests.{eq-eqb}
 use Rattle.rules.specs.declared.looking.Trip.{Trip}
-use Rattle.rules.specs.LoopsLaws.{either, cond-keeps}
+use Rattle.rules.specs.LoopsLaws.{either}
 use Rattle.rules.specs.Tables.{siteAt, noMessage}
 use Rattle.rules.specs.Answers.{isAccepted}
 use Rattle.rules.specs.Parts.{isFree, isEmpty, isPhaseOne, isPhaseTwo, hasAnswered, withRound, withAnswer, openedRound, figuresOf, abortedPassage}
 use Rattle.rules.specs.Rounds.{roundTold, openedPassage, closedPassage}
 use Rattle.rules.specs.Machine.{lookOf, placesOf, tripSite, headOf}
 use Rattle.rules.specs.Views.{Goes, deedOf}
-use Rattle.runs.specs.Types.{Kind, Phase, Round, Status, Passage, Visit, Body, Message, Tables, Step}
-use Rattle.runs.specs.Walk.Says.{isRefresh, isBinding, isPrepare, bodyKind, carriesCommit}
-use Rattle.runs.specs.Walk.Put.{put, put-same, put-other, put-all, put-back, same-or-other}
+use Rattle.runs.specs.Types.{Kind, Phase, Passage, Visit, Body, Message, Tables, Step}
+use Rattle.runs.specs.Walk.Says.{isPrepare, carriesCommit}
+use Rattle.runs.specs.Walk.Put.{put, put-same, put-all, same-or-other}
 use Rattle.runs.specs.Walk.Sound.{Sound}
 use Rattle.runs.specs.Walk.Clocks.{head-adds}
-use Rattle.runs.specs.Times.View.{View, Ledger, viewOf, ledgerNoted}
+use Rattle.runs.specs.Times.View.{View, Ledger, ledgerNoted}
 use Rattle.runs.specs.Times.Clauses.{Holds, sentFigures}
 use Rattle.runs.specs.Times.Store.{leftView}
 use Rattle.runs.specs.Kept.Closing.{closing-binding}

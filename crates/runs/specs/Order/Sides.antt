@@ -1,6 +1,6 @@
 -- Nobody operates on both sides of another: of two different uses of slots, no run has the first operating an object before the second does, and the second operating another object before the first does.
 -- The idea: between the two operations of the one object the first has let it go, at a smaller stamp than the second's operation; so every operation of the first is before it, and the other way round. Assumes nothing.
-use Prim.Native.Nat.{ℕ, _+_, _%_, _≤_, _<_}
+use Prim.Native.Nat.{ℕ, _+_, _≤_, _<_}
 use native.Mathlib.Omega.{arith}
 use mathlib.Core.Path.{_≡_, refl, sym, ap, _∙_, subst, subst₂}
 use mathlib.Core.Logic.{_≢_, ⊎-elim, _⊎_, inl, inr}
@@ -19,7 +19,6 @@ use Rattle.rules.specs.Runs.{Started}
 use Rattle.rules.specs.Events.{EventKind, Event, isHolding, eventsOf}
 use Rattle.rules.specs.Views.{Objects, deedOf}
 use Rattle.runs.specs.Types.{Tables, Step}
-use Rattle.runs.specs.Walk.Sound.{sound-step}
 use Rattle.runs.specs.Walk.Clocks.{clock-not-back}
 use Rattle.runs.specs.Holders.HeldStore.{Held}
 use Rattle.runs.specs.Holders.Holders.{held-started, held-step}
@@ -30,9 +29,9 @@ use Rattle.runs.specs.Events.HeldByList.{retired-holds-nothing}
 use Rattle.runs.specs.Operations.Definitions.{mailNamed, callsFor, operates, operatedAt}
 use Rattle.runs.specs.Operations.Delivered.{delivered-after-sent}
 use Rattle.runs.specs.Operations.Operated.{operated-was-free-or-own, operated-is-held, station-of-operated}
-use Rattle.runs.specs.Order.Definitions.{Among, InOrder, operated, isOperation, isLettingGo}
+use Rattle.runs.specs.Order.Definitions.{Among, InOrder, isOperation, isLettingGo}
 use Rattle.runs.specs.Order.Listed.{among-joined, among-left, among-right, ordered-joined, ordered-first, ordered-second, among-with-uses}
-use Rattle.runs.specs.Order.Stamps.{Happens, happens, stamp-of, Named, named, use-goes-on, operation-before-letting-go}
+use Rattle.runs.specs.Order.Stamps.{happens, stamp-of, named, operation-before-letting-go}
 
 -- ---- an operation moves the clock of the object's station
 

@@ -1,24 +1,22 @@
 -- The theorem that an operation is before a letting go: in every run from the start and in one use of a slot,
 -- every operation of its passage at any station has a smaller stamp than every letting go of an object of it at any station, in whichever order the steps came.
 -- The idea: go along the list; what an operation or a letting go has shown is carried from its step on, and a retire ends the use. Assumes nothing.
-use Prim.Native.Nat.{ℕ, _+_, _≤_, _<_}
+use Prim.Native.Nat.{ℕ, _≤_, _<_}
 use native.Mathlib.Omega.{arith}
-use native.Mathlib.Nat.{add-zero}
 use mathlib.Core.Path.{_≡_, refl, sym, ap, _∙_, subst}
 use mathlib.Core.Logic.{_≢_, ⊎-elim, _⊎_, inl, inr}
 use mathlib.Core.Bool.{Bool, true, false, _&&_, true≢false, false≢true}
-use mathlib.Core.List.{List, [], _∷_, _++_}
+use mathlib.Core.List.{List, [], _∷_}
 use lib.Dec.{eqb}
-use borrow.Author.Tests.{eqb-true, eqb-false}
+use borrow.Author.Tests.{eqb-true}
 use Rattle.rules.specs.Loops.{oneIf}
 use Rattle.rules.specs.LoopsLaws.{either, and-left, and-right}
-use Rattle.rules.specs.Tables.{siteAt, objectAt, slotOf, objectSite}
+use Rattle.rules.specs.Tables.{siteAt, objectAt, objectSite}
 use Rattle.rules.specs.Answers.{isAccepted}
 use Rattle.rules.specs.Parts.{isHeldBy}
 use Rattle.rules.specs.PartsLaws.{unheld-not-held, one-holder}
 use Rattle.rules.specs.Machine.{stepOf}
-use Rattle.rules.specs.Record.{flatOf, isStep}
-use Rattle.rules.specs.Runs.{Started, runOf}
+use Rattle.rules.specs.Runs.{Started}
 use Rattle.rules.specs.Events.{EventKind, isHolding, eventsOf}
 use Rattle.runs.specs.Types.{Status, Tables, Step}
 use Rattle.runs.specs.Walk.Put.{same-or-other}
@@ -26,9 +24,8 @@ use Rattle.runs.specs.Times.View.{Ledger}
 use Rattle.runs.specs.Holders.HeldStore.{Held}
 use Rattle.runs.specs.Holders.Holders.{held-started, held-step}
 use Rattle.runs.specs.Orphans.Orphans.{retires}
-use Rattle.runs.specs.Events.Uses.{All, InPlace, usesAfter, PassageEvent, withUses, eventsFrom, eventsUpTo, isOf, frees}
+use Rattle.runs.specs.Events.Uses.{InPlace, usesAfter, PassageEvent, withUses, eventsFrom, eventsUpTo, isOf, frees}
 use Rattle.runs.specs.Events.EventsInPlace.{events-in-place-from}
-use Rattle.runs.specs.Events.HeldByList.{retired-holds-nothing}
 use Rattle.runs.specs.Operations.Definitions.{operates, StillOpen}
 use Rattle.runs.specs.Operations.Operated.{operated-was-free-or-own, operated-is-held, others-after-operated, nothing-after-quiesce-there}
 use Rattle.runs.specs.Commits.Pledged.{Pledged, pledged-after-step, pledged-started}

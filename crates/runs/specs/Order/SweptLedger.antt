@@ -9,12 +9,12 @@ use Rattle.rules.specs.Answers.{isAccepted}
 use Rattle.rules.specs.AnswersLaws.{settle-accepted}
 use Rattle.rules.specs.Parts.{isFree}
 use Rattle.rules.specs.Stations.{sweepOf, sweepDone}
-use Rattle.rules.specs.Machine.{lookOf, placesOf, seenOf, decideOf, foundOf, headOf, tripPlaces, turnSeen, stepOf}
-use Rattle.runs.specs.Types.{Passage, Visit, Tables, Step, Outcome, Places, Seen}
+use Rattle.rules.specs.Machine.{seenOf, decideOf, headOf, tripPlaces, turnSeen, stepOf}
+use Rattle.runs.specs.Types.{Passage, Visit, Tables, Step, Places, Seen}
 use Rattle.runs.specs.Walk.Plain.{when-false}
 use Rattle.runs.specs.Walk.Put.{put-same, put-other, same-or-other}
 use Rattle.runs.specs.Walk.Steps.{placesAt, seenAt, turnedOf, ghostTurns, accepted-has}
-use Rattle.runs.specs.Times.View.{View, Past, Ledger, viewOf, noLedger, ledgerNoted}
+use Rattle.runs.specs.Times.View.{View, Ledger, viewOf, noLedger}
 use Rattle.runs.specs.Times.Clauses.{Holds}
 use Rattle.runs.specs.Times.Store.{nextLedger, nextLedgers, noted-same}
 use Rattle.runs.specs.Times.Ledgers.{headLedgers, turnLedgers}

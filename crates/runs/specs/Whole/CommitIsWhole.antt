@@ -4,12 +4,11 @@
 use Prim.Native.Nat.{ℕ, _%_, _<_}
 use mathlib.Core.Path.{_≡_, refl, sym, ap, _∙_, subst}
 use mathlib.Core.Logic.{_≢_, ⊎-elim, _⊎_, inl, inr}
-use mathlib.Core.Bool.{true, false, true≢false, false≢true}
+use mathlib.Core.Bool.{true, false, true≢false}
 use mathlib.Core.List.{List, [], _∷_, _++_, append-nil, append-assoc}
 use Rattle.rules.specs.LoopsLaws.{either, not-true}
-use Rattle.rules.specs.Tables.{objectAt, passageAt, visitAt, messageAt, objectSite}
-use Rattle.rules.specs.Answers.{isAccepted}
-use Rattle.rules.specs.Parts.{isHeldBy, isOver, unheld}
+use Rattle.rules.specs.Tables.{objectAt, passageAt, visitAt, objectSite}
+use Rattle.rules.specs.Parts.{isOver, unheld}
 use Rattle.rules.specs.PartsLaws.{let-go-unheld}
 use Rattle.rules.specs.Machine.{stepOf}
 use Rattle.rules.specs.Record.{flatOf}
@@ -22,11 +21,10 @@ use Rattle.runs.specs.Times.View.{Ledger, viewOf}
 use Rattle.runs.specs.Times.Ledgers.{ledgersOf}
 use Rattle.runs.specs.Times.Store.{own-body}
 use Rattle.runs.specs.Kept.Closing.{closing-no-call}
-use Rattle.runs.specs.Holders.Holders.{held-run}
 use Rattle.runs.specs.Orphans.Widths.{restOf}
 use Rattle.runs.specs.Orphans.Rests.{standing, standing-unheld}
 use Rattle.runs.specs.Orphans.Undone.{rest-after-step}
-use Rattle.runs.specs.Operations.Definitions.{mailNamed, operates, SweptAt}
+use Rattle.runs.specs.Operations.Definitions.{mailNamed}
 use Rattle.runs.specs.Operations.LetGo.{let-go-by}
 use Rattle.runs.specs.Operations.HeldObject.{value-while-held, value-after-word}
 use Rattle.runs.specs.Commits.VowLaws.{committed-tells}

@@ -5,17 +5,17 @@
 use Prim.Native.Nat.{ℕ, _<_}
 use mathlib.Core.Path.{_≡_, refl, sym, ap, _∙_, subst}
 use mathlib.Core.Logic.{_≢_, ⊎-elim, _⊎_, inl, inr}
-use mathlib.Core.Bool.{Bool, true, false, _&&_, _||_, true≢false, false≢true}
+use mathlib.Core.Bool.{true, false, _&&_, true≢false, false≢true}
 use mathlib.Core.List.{List, [], _∷_, _++_}
-use Rattle.rules.specs.LoopsLaws.{either, or-left, or-right}
-use Rattle.rules.specs.Tables.{siteAt, objectAt, passageAt, visitAt, objectSite}
+use Rattle.rules.specs.LoopsLaws.{either}
+use Rattle.rules.specs.Tables.{objectAt, passageAt, visitAt, objectSite}
 use Rattle.rules.specs.Answers.{isAccepted}
-use Rattle.rules.specs.Parts.{isUnheld, isHeldBy, isClosed, unheld}
+use Rattle.rules.specs.Parts.{isUnheld, isHeldBy, unheld}
 use Rattle.rules.specs.PartsLaws.{unheld-not-held, let-go-unheld}
 use Rattle.rules.specs.Machine.{stepOf}
 use Rattle.rules.specs.Runs.{Started, runOf, historyOf}
 use Rattle.rules.specs.Events.{isHolding}
-use Rattle.runs.specs.Types.{Status, Visit, Tables, Step, Answer}
+use Rattle.runs.specs.Types.{Status, Tables, Step, Answer}
 use Rattle.runs.specs.Walk.Says.{isBinding}
 use Rattle.runs.specs.Walk.Steps.{run-on}
 use Rattle.runs.specs.Times.View.{Ledger, viewOf}
@@ -24,15 +24,15 @@ use Rattle.runs.specs.Kept.Closing.{closing-binding}
 use Rattle.runs.specs.Holders.HeldStore.{Held}
 use Rattle.runs.specs.Holders.Holders.{held-run, held-step}
 use Rattle.runs.specs.Orphans.Orphans.{retires, isRetired}
-use Rattle.runs.specs.Orphans.Widths.{restOf, commits}
-use Rattle.runs.specs.Orphans.Rests.{standing, Stands}
+use Rattle.runs.specs.Orphans.Widths.{restOf}
+use Rattle.runs.specs.Orphans.Rests.{standing}
 use Rattle.runs.specs.Orphans.RestSteps.{standing-after-step}
 use Rattle.runs.specs.Orphans.Undone.{rest-is-standing, value-is-rest}
 use Rattle.runs.specs.Promises.Definitions.{Promised}
 use Rattle.runs.specs.Operations.Definitions.{operates}
 use Rattle.runs.specs.Operations.Operated.{operated-below, operated-was-free-or-own, operated-is-held, operated-reads, standing-after-operated}
 use Rattle.runs.specs.Commits.Pledged.{Pledged, pledged-after-step, pledged-run}
-use Rattle.runs.specs.Commits.Since.{Carried, not-retired, step-carried}
+use Rattle.runs.specs.Commits.Since.{not-retired, step-carried}
 use Rattle.runs.specs.Commits.Over.{StatusIs, NoWay, over-carries, ClosesCommit, committed-by-closing}
 use Rattle.runs.specs.Order.Gone.{Gone, gone-carries}
 use Rattle.runs.specs.Order.Before.{LetGo, let-go-at-once}

@@ -2,14 +2,14 @@
 -- Assumes nothing.
 use Prim.Native.Nat.{ℕ, _<_}
 use mathlib.Core.Path.{_≡_, refl, sym, ap, _∙_, subst}
-use mathlib.Core.Logic.{_≢_, ⊎-elim, _⊎_, inl, inr}
-use mathlib.Core.Bool.{Bool, true, false, _&&_, true≢false, false≢true}
+use mathlib.Core.Logic.{_≢_, ⊎-elim, _⊎_}
+use mathlib.Core.Bool.{true, false, _&&_, true≢false, false≢true}
 use mathlib.Core.List.{List, [], _∷_, _++_}
 use lib.Dec.{eqb}
 use borrow.Author.Tests.{eqb-true, eqb-false}
 use Rattle.rules.specs.declared.tables.Object.{Object}
 use Rattle.rules.specs.LoopsLaws.{either}
-use Rattle.rules.specs.Tables.{objectAt, passageAt, visitAt, objectSite}
+use Rattle.rules.specs.Tables.{objectAt, passageAt, objectSite}
 use Rattle.rules.specs.Answers.{isAccepted}
 use Rattle.rules.specs.Parts.{isUnheld, isHeldBy, isOver, isAborted, unheld}
 use Rattle.rules.specs.PartsLaws.{someone-holds, unheld-not-held, let-go-unheld, one-holder}
@@ -17,7 +17,7 @@ use Rattle.rules.specs.Machine.{stepOf}
 use Rattle.rules.specs.Runs.{Started, runOf, historyOf}
 use Rattle.rules.specs.Events.{isHolding}
 use Rattle.runs.specs.Types.{Status, Tables, Step}
-use Rattle.runs.specs.Walk.Steps.{seenAt, run-on}
+use Rattle.runs.specs.Walk.Steps.{seenAt}
 use Rattle.runs.specs.Times.Ledgers.{ledgersOf}
 use Rattle.runs.specs.Holders.Holders.{held-run}
 use Rattle.runs.specs.Orphans.Orphans.{retires, isRetired}
