@@ -181,7 +181,9 @@ committed-moved n (Move.Replies b asked body e was below y i silent reply) x = a
 committed-moved n (Move.Hears b told body e was y i z) x = absurd (n (ap (λ (q : Passage). q .status) (sym e) ∙ x))
 committed-moved n (Move.Collects b r q body number at e y i stamp z) x = absurd (n (ap (λ (q : Passage). q .status) (sym e) ∙ x))
 
-committed-turned : {w : View} {a : ℕ} {p : Passage} {v : Visit} {trip : Trip} → Turn w a p v trip → p .status ≡ Status.Committed → w .passage .status ≡ Status.Committed
+committed-turned :
+    {w : View} {a : ℕ} {p : Passage} {v : Visit} {trip : Trip} → Turn w a p v trip → p .status ≡ Status.Committed
+    → w .passage .status ≡ Status.Committed
 committed-turned (Turn.Stays trip e y) x = ap (λ (q : Passage). q .status) (sym e) ∙ x
 committed-turned (Turn.Sweeps site true active e was unprepared y) x = absurd (aborted-not-committed (ap (λ (q : Passage). q .status) (sym e) ∙ x))
 committed-turned (Turn.Sweeps site false active e was unprepared y) x = ap (λ (q : Passage). q .status) (sym e) ∙ x
@@ -190,7 +192,9 @@ committed-turned (Turn.Crashes site false hits runs e unhit y) x = ap (λ (q : P
 
 module _ (t : Tables) (ls : ℕ → Ledger) (step : Step) (p : ℕ) (k : Pledged t ls) (slot : p < 16) (n : passageAt t p .status ≢ Status.Committed) where
   -- by its own store
-  head-commits : isAccepted (headOf t step .answer) ≡ true → passageAt (headOf t step .tables) p .status ≡ Status.Committed → ClosesCommit (passageAt t p)
+  head-commits :
+      isAccepted (headOf t step .answer) ≡ true → passageAt (headOf t step .tables) p .status ≡ Status.Committed
+      → ClosesCommit (passageAt t p)
   unfolding headOf
   head-commits e =
       passage-has

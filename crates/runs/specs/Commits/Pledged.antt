@@ -142,7 +142,9 @@ pledged-after-turn trip slot o ls i k =
           (turn-of t trip slot))));
     }
 
-pub pledged-after-step : (t : Tables) (step : Step) (ls : ℕ → Ledger) → Pledged t ls → Pledged (stepOf t step .tables) (ghostStep headLedgers turnLedgers t step ls)
+pub pledged-after-step :
+    (t : Tables) (step : Step) (ls : ℕ → Ledger) → Pledged t ls
+    → Pledged (stepOf t step .tables) (ghostStep headLedgers turnLedgers t step ls)
 pledged-after-step = good-after-step headLedgers turnLedgers Pledged pledged-after-head pledged-after-turn
 
 -- ---- every run

@@ -66,7 +66,9 @@ used-moved (Move.Replies n asked body e was below x i silent reply) g u = rw e u
 used-moved (Move.Hears n told body e was x i y) g u = rw e u
 used-moved (Move.Collects n r q body number at e x i stamp y) g u = rw e u
 
-pub used-turned : {w : View} {a : ℕ} {p : Passage} {v : Visit} {trip : Trip} → Turn w a p v trip → isFree (w .passage .status) ≡ false → isFree (p .status) ≡ false
+pub used-turned :
+    {w : View} {a : ℕ} {p : Passage} {v : Visit} {trip : Trip} → Turn w a p v trip → isFree (w .passage .status) ≡ false
+    → isFree (p .status) ≡ false
 used-turned (Turn.Stays trip e x) u = rw e u
 used-turned {w = w} (Turn.Sweeps site aborts active e was unprepared x) u = rw e (used-aborted aborts (w .passage) u)
 used-turned {w = w} (Turn.Crashes site aborts hits runs e unhit x) u = rw e (used-aborted aborts (w .passage) u)
@@ -208,7 +210,9 @@ module _ (P : View → Ledger → Type 0) (Way : Trip → View → Type 0) (carr
   abbrev OnWay : Trip → Tables → (ℕ → Ledger) → Type 0
   OnWay trip t ls = Pledged t ls × P (viewOf t p) (ls p) × Way trip (viewOf t p)
 
-  accepted-carried : (t : Tables) (step : Step) → Carried P p t → isAccepted (stepOf t step .answer) ≡ true → retires p step ≡ false → Carried P p (stepOf t step .tables)
+  accepted-carried :
+      (t : Tables) (step : Step) → Carried P p t → isAccepted (stepOf t step .answer) ≡ true → retires p step ≡ false
+      → Carried P p (stepOf t step .tables)
   unfolding ghostTurns
   accepted-carried t step c e r =
       let trip : Trip = lookOf step .trip in
@@ -230,7 +234,9 @@ module _ (P : View → Ledger → Type 0) (Way : Trip → View → Type 0) (carr
       e in
       record { ledgers = _; pledged = done .0; has = done .1 }
 
-  pub step-carried : (t : Tables) (step : Step) → Carried P p t → (isAccepted (stepOf t step .answer) && retires p step) ≡ false → Carried P p (stepOf t step .tables)
+  pub step-carried :
+      (t : Tables) (step : Step) → Carried P p t → (isAccepted (stepOf t step .answer) && retires p step) ≡ false
+      → Carried P p (stepOf t step .tables)
   step-carried t step c r =
       ⊎-elim
       (λ e. accepted-carried t step c e (rw e at r))

@@ -132,7 +132,9 @@ module _ (w : View) (l : Ledger) (a k c source : ℕ) (v : Visit) (m : Message) 
   here-same e = here-marked (ap (λ (x : Visit). x .there) e) (ap (λ (x : Visit). x .prepared) e) (ap (λ (x : Visit). x .round) e)
 
   -- a visit that is gone, where none was bound
-  here-gone : v .there ≡ false → (w .passage .round .kind ≡ Kind.Prepare → w .passage .round .phase ≡ Phase.One → w .visit a .prepared ≡ true → ⊥) → Here
+  here-gone :
+      v .there ≡ false → (w .passage .round .kind ≡ Kind.Prepare → w .passage .round .phase ≡ Phase.One → w .visit a .prepared ≡ true → ⊥)
+      → Here
   here-gone gone free =
       record {
         asked = λ kind one now. absurd (false≢true (sym gone ∙ now));
@@ -156,7 +158,9 @@ module _ (w : View) (l : Ledger) (a k c source : ℕ) (v : Visit) (m : Message) 
   as-it-was p e = subst (SamePassage (w .passage)) (sym e) (same-passage (w .passage))
 
   -- a call is received: a visit that it makes is of an older round, and a commit that tells has no call in flight
-  here-received : (call : Call) → w .mail k .body ≡ Body.Call call → v .there ≡ true → v .round ≡ calledVisit call (w .visit a) .round → v .prepared ≡ calledVisit call (w .visit a) .prepared → Here
+  here-received :
+      (call : Call) → w .mail k .body ≡ Body.Call call → v .there ≡ true → v .round ≡ calledVisit call (w .visit a) .round
+      → v .prepared ≡ calledVisit call (w .visit a) .prepared → Here
   here-received call body there round prepared =
       ⊎-elim
       (λ (e : w .visit a .there ≡ true). here-marked (there ∙ sym e) (prepared ∙ (rw e)) (round ∙ (rw e)))
@@ -197,7 +201,9 @@ module _ (w : View) (l : Ledger) (a k c source : ℕ) (v : Visit) (m : Message) 
   -- ---- moves that change the passage
 
   -- the word of a commit is not in flight where the passage is not committed
-  wordless : m ≡ w .mail k → (w .passage .status ≡ Status.Committed → ⊥) → (s : Status) (i : ℕ) → carriesCommit (put (w .mail) k m i .body) ≡ true → s ≡ Status.Committed
+  wordless :
+      m ≡ w .mail k → (w .passage .status ≡ Status.Committed → ⊥) → (s : Status) (i : ℕ) → carriesCommit (put (w .mail) k m i .body) ≡ true
+      → s ≡ Status.Committed
   wordless e never s i y = absurd (never (mail-word e i y))
 
   -- an abort binds nothing

@@ -42,7 +42,9 @@ active-runs Status.Aborted y = absurd (false≢true y)
 active-runs Status.Committed y = absurd (false≢true y)
 
 -- a passage that tells a commit is committed
-pub telling-commits : (p : Passage) → RoundFits p → p .status ≢ Status.Free → p .round .kind ≡ Kind.Prepare → p .round .phase ≡ Phase.Two → p .status ≡ Status.Committed
+pub telling-commits :
+    (p : Passage) → RoundFits p → p .status ≢ Status.Free → p .round .kind ≡ Kind.Prepare → p .round .phase ≡ Phase.Two
+    → p .status ≡ Status.Committed
 telling-commits p f used k two = go (p .status) refl f
   where
     go : (s : Status) → p .status ≡ s → RoundFor s (p .round .kind) (p .round .phase) → p .status ≡ Status.Committed

@@ -91,7 +91,9 @@ module _ (t : Tables) (ls : ℕ → Ledger) (k : Pledged t ls) (p : ℕ) (slot :
       full (Body.PhaseTwo n d) e = refl
       full (Body.Answer n r q) e = refl
 
-  closed-commits : (h : ℕ) → slotOf h ≡ p → ClosesCommit (passageAt t p) → isAccepted (stepOf t (Step.Close h) .answer) ≡ true → passageAt (stepOf t (Step.Close h) .tables) p .status ≡ Status.Committed
+  closed-commits :
+      (h : ℕ) → slotOf h ≡ p → ClosesCommit (passageAt t p) → isAccepted (stepOf t (Step.Close h) .answer) ≡ true
+      → passageAt (stepOf t (Step.Close h) .tables) p .status ≡ Status.Committed
   unfolding placesOf decideOf closeOf
   closed-commits h own closes a =
       rw
@@ -99,7 +101,9 @@ module _ (t : Tables) (ls : ℕ → Ledger) (k : Pledged t ls) (p : ℕ) (slot :
       (ap (λ (x : Seen). x .passage .status) (settle-accepted (closeDone h (seenAt t (Step.Close h))) (seenAt t (Step.Close h)) (decision-accepted t (Step.Close h) a))
       ∙ ap (λ (x : Kind). toldStatus (toldOf x (largestQuiesce (passageAt t (slotOf h) .round))) (passageAt t (slotOf h) .status)) (subst (λ (q : ℕ). passageAt t q .round .kind ≡ Kind.Prepare) (sym own) (closes .kind)))
 
-  word-commits : (step : Step) (site : ℕ) → WordOf t site p step → isAccepted (stepOf t step .answer) ≡ true → passageAt (stepOf t step .tables) p .status ≡ Status.Committed
+  word-commits :
+      (step : Step) (site : ℕ) → WordOf t site p step → isAccepted (stepOf t step .answer) ≡ true
+      → passageAt (stepOf t step .tables) p .status ≡ Status.Committed
   word-commits _ site (WordOf.Closes h w) a = closed-commits h (w .slot) (w .closes) a
   word-commits _ site (WordOf.Mails m w) a =
       let committed : passageAt t p .status ≡ Status.Committed =
@@ -107,5 +111,7 @@ module _ (t : Tables) (ls : ℕ → Ledger) (k : Pledged t ls) (p : ℕ) (slot :
       over-after-step t ls (Step.Deliver m) p k slot (ap isOver committed) (and-false (isAccepted (stepOf t (Step.Deliver m) .answer))) ∙ committed
 
   -- after an accepted step that is home's word to slot p at this site, the passage is committed
-  pub committed-after-word : (step : Step) (site : ℕ) → isAccepted (stepOf t step .answer) ≡ true → isWord t site p step ≡ true → passageAt (stepOf t step .tables) p .status ≡ Status.Committed
+  pub committed-after-word :
+      (step : Step) (site : ℕ) → isAccepted (stepOf t step .answer) ≡ true → isWord t site p step ≡ true
+      → passageAt (stepOf t step .tables) p .status ≡ Status.Committed
   committed-after-word step site a w = word-commits step site (word-of t step site p a w) a

@@ -80,13 +80,17 @@ module _ (t : Tables) (l : Ledger) where
   home-here p h = let i : passageAt t p .home < 8 = h .passage .home in omega arith
 
   -- only the site's clock moves
-  site-move : {step : Step} (at : Places) (left : Seen) → left .passage ≡ passageAt t (at .slot) → left .visit ≡ visitAt t (at .site) (at .slot) → left .message ≡ messageAt t (at .message)
+  site-move :
+      {step : Step} (at : Places) (left : Seen) → left .passage ≡ passageAt t (at .slot) → left .visit ≡ visitAt t (at .site) (at .slot)
+      → left .message ≡ messageAt t (at .message)
       → siteAt t (at .site) .clock ≤ left .site .clock → MoveAt step t at left
   site-move at left p v m i =
       Move.Rests p (subst (Alike (visitAt t (at .site) (at .slot))) (sym v) (alike-same _)) i (inl (ap (mailOf (at .slot)) m))
 
   -- a message that is no word goes out, or one is lost
-  plain-move : {step : Step} (at : Places) (left : Seen) → left .passage ≡ passageAt t (at .slot) → Alike (visitAt t (at .site) (at .slot)) (left .visit)
+  plain-move :
+      {step : Step} (at : Places) (left : Seen) → left .passage ≡ passageAt t (at .slot)
+      → Alike (visitAt t (at .site) (at .slot)) (left .visit)
       → siteAt t (at .site) .clock ≤ left .site .clock → Plain (left .message) → MoveAt step t at left
   plain-move at left p v i m = Move.Rests p v i (inr (seen-plain (at .slot) (left .message) m))
 
@@ -155,7 +159,9 @@ module _ (t : Tables) (at : Places) (m : ℕ) (l : Ledger) (own : slotOf (messag
       refl
 
   -- a phase 1 or phase 2 message goes away from home
-  not-home : (b : Body) (body : letter .body ≡ b) (full : isEmpty b ≡ false) → viewOf t (at .slot) .mail (at .message) .destination ≢ passageAt t (at .slot) .home → atHome seen ≡ false
+  not-home :
+      (b : Body) (body : letter .body ≡ b) (full : isEmpty b ≡ false)
+      → viewOf t (at .slot) .mail (at .message) .destination ≢ passageAt t (at .slot) .home → atHome seen ≡ false
   not-home b body full = letter-away t at m own here kin b body full
 
   phase-one-move :

@@ -147,7 +147,9 @@ let-go-at-once p k t ls step slot pledged held free =
     (λ w. inr (swept step w))
     (let-go-by t step k p slot (pledged .kept .sound) held free)
   where
-    swept : (x : Step) → SweptAt t x (objectSite k) p → Carried (Gone (siteAt (stepOf t x .tables) (objectSite k) .clock) (objectSite k)) p (stepOf t x .tables)
+    swept :
+        (x : Step) → SweptAt t x (objectSite k) p
+        → Carried (Gone (siteAt (stepOf t x .tables) (objectSite k) .clock) (objectSite k)) p (stepOf t x .tables)
     swept x w =
         let was = pledged .kept .slots p slot .mirror (objectSite k) (w .there) in
         let y = subst

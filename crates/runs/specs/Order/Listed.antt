@@ -143,7 +143,8 @@ with-uses-means uses [] e a = absurd a
 with-uses-means uses (x ∷ xs) e (inl a) = (inl (ap (λ (y : PassageEvent). y .event) a), subst (λ (y : PassageEvent). y .used ≡ uses (y .event .slot)) a refl)
 with-uses-means uses (x ∷ xs) e (inr a) = let y = with-uses-means uses xs e a in (inr (y .0), y .1)
 
-pub among-with-uses : (uses : ℕ → ℕ) (es : List Event) (e : Event) → Among e es → Among (record { event = e; used = uses (e .slot) }) (withUses uses es)
+pub among-with-uses :
+    (uses : ℕ → ℕ) (es : List Event) (e : Event) → Among e es → Among (record { event = e; used = uses (e .slot) }) (withUses uses es)
 unfolding withUses
 among-with-uses uses [] e a = absurd a
 among-with-uses uses (x ∷ xs) e (inl a) = inl (ap (λ (y : Event). record { event = y; used = uses (y .slot) }) a)

@@ -102,7 +102,9 @@ module _ (x s : ℕ) where
         new
         (λ j e n r q body number source. o .answer kind j n r q body (same j n r q body number) source)
 
-    mail-word : (carriesCommit (m .body) ≡ true → x ≤ m .stamp) → (j : ℕ) → carriesCommit (put (w .mail) k m j .body) ≡ true → x ≤ put (w .mail) k m j .stamp
+    mail-word :
+        (carriesCommit (m .body) ≡ true → x ≤ m .stamp) → (j : ℕ) → carriesCommit (put (w .mail) k m j .body) ≡ true
+        → x ≤ put (w .mail) k m j .stamp
     mail-word new = put-all (w .mail) k m (λ j y. carriesCommit (y .body) ≡ true → x ≤ y .stamp) new (λ j e. o .word j)
 
     -- the round keeps its number and its kind
@@ -138,14 +140,18 @@ module _ (x s : ℕ) where
         word)
 
     -- no answer and no word is left
-    silent-answer : m ≡ noMessage → (n r q : ℕ) → w .passage .round .kind ≡ Kind.Prepare → m .body ≡ Body.Answer n r q → n ≡ w .passage .round .number → m .source ≡ s → x ≤ m .stamp
+    silent-answer :
+        m ≡ noMessage → (n r q : ℕ) → w .passage .round .kind ≡ Kind.Prepare → m .body ≡ Body.Answer n r q → n ≡ w .passage .round .number
+        → m .source ≡ s → x ≤ m .stamp
     silent-answer e n r q kind body = absurd (false≢true (ap isAnswer (ap (λ (y : Message). y .body) (sym e) ∙ body)))
 
     silent-word : m ≡ noMessage → carriesCommit (m .body) ≡ true → x ≤ m .stamp
     silent-word e y = absurd (false≢true (ap (λ (z : Message). carriesCommit (z .body)) (sym e) ∙ y))
 
     -- the message stays
-    same-answer : m ≡ w .mail k → (n r q : ℕ) → w .passage .round .kind ≡ Kind.Prepare → m .body ≡ Body.Answer n r q → n ≡ w .passage .round .number → m .source ≡ s → x ≤ m .stamp
+    same-answer :
+        m ≡ w .mail k → (n r q : ℕ) → w .passage .round .kind ≡ Kind.Prepare → m .body ≡ Body.Answer n r q → n ≡ w .passage .round .number
+        → m .source ≡ s → x ≤ m .stamp
     same-answer e n r q kind = rw e (λ body number source. o .answer kind k n r q body number source)
 
     same-word : m ≡ w .mail k → carriesCommit (m .body) ≡ true → x ≤ m .stamp

@@ -35,12 +35,16 @@ use Rattle.runs.specs.Order.Stamps.{happens, stamp-of, named, operation-
 
 -- ---- an operation moves the clock of the object's station
 
-delivery-moves : (t : Tables) (q x : ℕ) (step : Step) → Objects step → Held t → operates t q x step ≡ true → siteAt t (operatedAt t step) .clock < siteAt (stepOf t step .tables) (operatedAt t step) .clock
+delivery-moves :
+    (t : Tables) (q x : ℕ) (step : Step) → Objects step → Held t → operates t q x step ≡ true
+    → siteAt t (operatedAt t step) .clock < siteAt (stepOf t step .tables) (operatedAt t step) .clock
 delivery-moves t q x _ (Objects.Closes h) held e = absurd (false≢true (and-right (isAccepted (stepOf t (Step.Close h) .answer)) false e))
 delivery-moves t q x _ (Objects.Delivers m) held e = delivered-after-sent t m (held .sound) (and-left _ _ e) .moved
 delivery-moves t q x _ (Objects.Stay step c d stay) held e = absurd (false≢true (sym d ∙ and-left (isStep 11 step) _ (and-right (isAccepted (stepOf t step .answer)) _ e)))
 
-operation-moves : (t : Tables) (q x : ℕ) (step : Step) → Held t → operates t q x step ≡ true → siteAt t (objectSite x) .clock < siteAt (stepOf t step .tables) (objectSite x) .clock
+operation-moves :
+    (t : Tables) (q x : ℕ) (step : Step) → Held t → operates t q x step ≡ true
+    → siteAt t (objectSite x) .clock < siteAt (stepOf t step .tables) (objectSite x) .clock
 operation-moves t q x step held e =
     subst
     (λ (s : ℕ). siteAt t s .clock < siteAt (stepOf t step .tables) s .clock)

@@ -44,7 +44,9 @@ pub record Happens (t : Tables) (uses : ℕ → ℕ) (step : Step) (e : PassageE
   pub place : InPlace t step (e .event)
   pub used : e .used ≡ uses (e .event .slot)
 
-pub happens : (t : Tables) (uses : ℕ → ℕ) (step : Step) (e : PassageEvent) → Held t → Among e (withUses uses (eventsOf t step)) → Happens t uses step e
+pub happens :
+    (t : Tables) (uses : ℕ → ℕ) (step : Step) (e : PassageEvent) → Held t → Among e (withUses uses (eventsOf t step))
+    → Happens t uses step e
 happens t uses step e held a =
     let y = with-uses-means uses (eventsOf t step) e a in
     record {
@@ -54,7 +56,9 @@ happens t uses step e held a =
     }
 
 -- the stamp is the clock of the object's station after the step
-pub stamp-of : (t : Tables) (uses : ℕ → ℕ) (step : Step) (e : PassageEvent) → Happens t uses step e → e .event .stamp ≡ siteAt (stepOf t step .tables) (objectSite (e .event .object)) .clock
+pub stamp-of :
+    (t : Tables) (uses : ℕ → ℕ) (step : Step) (e : PassageEvent) → Happens t uses step e
+    → e .event .stamp ≡ siteAt (stepOf t step .tables) (objectSite (e .event .object)) .clock
 stamp-of t uses step e h = h .place .stamp ∙ ap (λ (s : ℕ). siteAt (stepOf t step .tables) s .clock) (h .place .site)
 
 -- an event of use u of slot p with object k
@@ -173,7 +177,9 @@ module _ (p u k : ℕ) where
 
 module _ (p u k j : ℕ) (e f : PassageEvent) (operation : isOperation p u k e ≡ true) (letting : isLettingGo p u j f ≡ true) where
   -- no step does both
-  not-in-one-step : (t : Tables) (uses : ℕ → ℕ) (step : Step) → Held t → Among e (withUses uses (eventsOf t step)) → Among f (withUses uses (eventsOf t step)) → ⊥
+  not-in-one-step :
+      (t : Tables) (uses : ℕ → ℕ) (step : Step) → Held t → Among e (withUses uses (eventsOf t step))
+      → Among f (withUses uses (eventsOf t step)) → ⊥
   not-in-one-step t uses step held a b =
       let g = happens t uses step e held a in
       let h = happens t uses step f held b in

@@ -31,7 +31,9 @@ ReleasedBy r s l = (l s .seen ≡ true) × (l s .last .release ≤ r)
 
 module _ (r s p : ℕ) (slot : p < 16) where
   -- a sweep's own store is no news
-  head-news : (t : Tables) (site : ℕ) (ls : ℕ → Ledger) → Pledged t ls → isAccepted (headOf t (Step.Sweep site) .answer) ≡ true → ls p s .seen ≡ true → headLedgers t (Step.Sweep site) ls p ≡ ls p
+  head-news :
+      (t : Tables) (site : ℕ) (ls : ℕ → Ledger) → Pledged t ls → isAccepted (headOf t (Step.Sweep site) .answer) ≡ true
+      → ls p s .seen ≡ true → headLedgers t (Step.Sweep site) ls p ≡ ls p
   unfolding headOf decideOf sweepOf
   head-news t site ls k e seen =
       let step : Step = Step.Sweep site in

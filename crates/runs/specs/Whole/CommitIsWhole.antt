@@ -147,7 +147,9 @@ module _ {t₀ : Tables} (fresh : Started t₀) (p k width : ℕ) (slot : p < 16
       }))
       (whole-after-step (runOf t₀ before) (ledgersOf t₀ before) step p k slot (pledged-run fresh before) settled held)
 
-  longer : (before : List Step) (s : Step) (steps : List Step) → HeldOrLetStand t₀ (before ++ s ∷ []) steps p k width → HeldOrLetStand t₀ before (s ∷ steps) p k width
+  longer :
+      (before : List Step) (s : Step) (steps : List Step) → HeldOrLetStand t₀ (before ++ s ∷ []) steps p k width
+      → HeldOrLetStand t₀ before (s ∷ steps) p k width
   longer before s steps (inl y) = inl (rw (← append-assoc before (s ∷ []) steps) y)
   longer before s steps (inr y) = inr (let-stand-later t₀ before s steps p k width y)
 

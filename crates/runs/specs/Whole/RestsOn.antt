@@ -50,14 +50,18 @@ pub record LetItGo (p k : ℕ) (t : Tables) : Type 0 where
   pub since : LetGo stamp (objectSite k) p t
 
 -- while an object is held by the same passage its width stands
-still-stands : (t : Tables) (step : Step) (p k : ℕ) → Held t → isHolding (stepOf t step .tables) p k ≡ true → standing (objectAt (stepOf t step .tables) k) ≡ standing (objectAt t k)
+still-stands :
+    (t : Tables) (step : Step) (p k : ℕ) → Held t → isHolding (stepOf t step .tables) p k ≡ true
+    → standing (objectAt (stepOf t step .tables) k) ≡ standing (objectAt t k)
 still-stands t step p k held holds =
     ⊎-elim
     (λ e. e)
     (λ e. absurd (true≢false (sym holds ∙ ap (isHeldBy p) (e .1) ∙ unheld-not-held p (unheld (objectAt t k .value)) (let-go-unheld (objectAt t k .value)))))
     (standing-after-step t step (held .sound) k)
 
-pub let-go-carried : (x s p : ℕ) (t : Tables) (step : Step) → p < 16 → LetGo x s p t → (isAccepted (stepOf t step .answer) && retires p step) ≡ false → LetGo x s p (stepOf t step .tables)
+pub let-go-carried :
+    (x s p : ℕ) (t : Tables) (step : Step) → p < 16 → LetGo x s p t → (isAccepted (stepOf t step .answer) && retires p step) ≡ false
+    → LetGo x s p (stepOf t step .tables)
 let-go-carried x s p t step slot (inl c) r = inl (step-carried (StatusIs Status.Committed) NoWay (over-carries Status.Committed refl) p slot t step c r)
 let-go-carried x s p t step slot (inr c) r = inr (step-carried (Gone x s) NoWay (gone-carries x s) p slot t step c r)
 
