@@ -160,7 +160,7 @@ module _ (w : View) (l : Ledger) (h : Holds w l)
       h
       (λ e. closed-not-free (free-told (roundTold (w .passage .round)) (w .passage .status) e))
       (over-told (roundTold (w .passage .round)) (w .passage .status))
-      (λ e. absurd (true≢false (sym (ap isPhaseOne e))))
+      (λ e. h .passage .home-answers not-none)
       (λ q r e k. closed-below q r k)
       (λ e b. closed-is-quiet b)
       (λ s e z k. rw (largest-phase Phase.Two) (closed-largest (rw k) s e))

@@ -4,12 +4,12 @@ use native.Mathlib.Omega.{arith}
 use native.Mathlib.Nat.{not-suc-le-zero}
 use mathlib.Core.Path.{_≡_, refl, sym, ap, _∙_}
 use mathlib.Core.Logic.{⊎-elim, _⊎_, inl, inr}
-use mathlib.Core.Bool.{true, false, true≢false}
+use mathlib.Core.Bool.{true, false, true≢false, false≢true}
 use lib.ListN.{getD}
 use borrow.Author.Tests.{eqb-true, eq-eqb}
 use Rattle.rules.specs.Loops.{oneIf, sumUpTo}
 use Rattle.rules.specs.LoopsLaws.{either, every-at, sum-at, below-or-last}
-use Rattle.rules.specs.Parts.{isEmpty, figuresAt, hasAnswered, ifAnswered, sentTo, receivedAt, isClosed}
+use Rattle.rules.specs.Parts.{isEmpty, isPhaseOne, figuresAt, hasAnswered, ifAnswered, sentTo, receivedAt, isClosed}
 use Rattle.runs.specs.Types.{Phase, Round, Call, Body}
 use Rattle.runs.specs.Walk.Says.{isRefresh, isBinding}
 use Rattle.runs.specs.Times.View.{View, Ledger}
@@ -63,7 +63,7 @@ module _ (w : View) (l : Ledger) (h : Holds w l)
   all-answer k shows zero u d s j = absurd (not-suc-le-zero d)
   all-answer k shows (suc b) u d s j =
       ⊎-elim
-      (λ e. rw e (h .passage .home-answers one))
+      (λ e. rw e (h .passage .home-answers (λ none. false≢true (ap isPhaseOne (sym none ∙ one)))))
       (λ n.
       let x = h .sites u s in
       let y = x .edge n in

@@ -6,7 +6,7 @@ use mathlib.Core.Logic.{⊎-elim}
 use mathlib.Core.Bool.{true, false, true≢false, false≢true}
 use Rattle.rules.specs.Loops.{sumUpTo}
 use Rattle.rules.specs.Tables.{noRound}
-use Rattle.rules.specs.Parts.{isFree, isEmpty, isPhaseOne, isPhaseTwo, newVisit}
+use Rattle.rules.specs.Parts.{isFree, isEmpty, isPhaseTwo, newVisit}
 use Rattle.rules.specs.Passages.{begunPassage}
 use Rattle.runs.specs.Types.{Round, Status, Visit, Body}
 use Rattle.runs.specs.Walk.Says.{isRefresh}
@@ -37,7 +37,7 @@ fresh-passage w l i e =
       figures = rw e refl;
       kept =
           λ v j y. absurd (true≢false (sym y ∙ nobody-answers (w .passage .round) v (ap (λ (r : Round). r .answered) e) j));
-      home-answers = λ y. absurd (false≢true (ap isPhaseOne (sym (ap (λ (r : Round). r .phase) e) ∙ y)));
+      home-answers = λ y. absurd (y (ap (λ (r : Round). r .phase) e));
       refresh-one = λ q r y. absurd (false≢true (ap isRefresh (sym (ap (λ (r : Round). r .kind) e) ∙ y)));
       refresh-two = λ q r y k. absurd (false≢true (ap isPhaseTwo (sym (ap (λ (r : Round). r .phase) e) ∙ y)));
       closed-quiet = λ y b. absurd (false≢true (ap isPhaseTwo (sym (ap (λ (r : Round). r .phase) e) ∙ y)));

@@ -4,7 +4,7 @@ use native.Mathlib.Omega.{arith}
 use mathlib.Core.Path.{_≡_, refl, sym, ap, _∙_}
 use mathlib.Core.Logic.{_≢_, ⊎-elim, _⊎_, inl, inr}
 use mathlib.Core.Bool.{true, false, true≢false, false≢true}
-use Rattle.rules.specs.Parts.{isOver, isPhaseOne, isPhaseTwo, figuresOf, hasAnswered, withAnswer, openedRound, askedOf, askedVisit, askedStatus, withPhase}
+use Rattle.rules.specs.Parts.{isOver, isPhaseTwo, figuresOf, hasAnswered, withAnswer, openedRound, askedOf, askedVisit, askedStatus, withPhase}
 use Rattle.rules.specs.Rounds.{openedPassage}
 use Rattle.runs.specs.Types.{Figures, Kind, Phase, Status, Visit, Told, Body, Message}
 use Rattle.runs.specs.Walk.Says.{isBinding}
@@ -156,7 +156,7 @@ module _ (w : View) (l : Ledger) (status : Status) (kind : Kind) (h : Holds w l)
               mask = omega arith;
               figures = refl;
               kept = λ v i e. absurd (none-answered-yet v i e);
-              home-answers = λ e. absurd (false≢true (ap isPhaseOne e));
+              home-answers = λ e. absurd (e refl);
               refresh-one = times;
               refresh-two = λ q r e k. absurd (false≢true (ap isPhaseTwo e));
               closed-quiet = λ e b. absurd (false≢true (ap isPhaseTwo e));

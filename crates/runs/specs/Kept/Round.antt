@@ -8,7 +8,7 @@ use mathlib.Core.List.{List}
 use lib.ListN.{length, getD, length-set}
 use lib.Seq.{getD-set-same, getD-set-other}
 use Rattle.rules.specs.Tables.{pastFigures}
-use Rattle.rules.specs.Parts.{isFree, isOver, isPhaseOne, isPhaseTwo, withPhase, figuresAt, hasAnswered, withAnswer, largestQuiesce}
+use Rattle.rules.specs.Parts.{isFree, isOver, isPhaseTwo, withPhase, figuresAt, hasAnswered, withAnswer, largestQuiesce}
 use Rattle.runs.specs.Types.{Figures, Kind, Phase, Status}
 use Rattle.runs.specs.Walk.Says.{isRefresh, isBinding}
 use Rattle.runs.specs.Walk.Put.{same-or-other}
@@ -35,7 +35,7 @@ pub record Restated (w : View) (l : Ledger) (status : Status) (phase : Phase) (a
       → k < w .passage .round .number → KeptFigure (alike (w .passage) status phase answered figures .round) v f
       → 1 ≤ getD (f .sent) d 0
   pub home-answers :
-      phase ≡ Phase.One → hasAnswered (alike (w .passage) status phase answered figures .round) (w .passage .home) ≡ true
+      phase ≢ Phase.None → hasAnswered (alike (w .passage) status phase answered figures .round) (w .passage .home) ≡ true
   pub refresh-two : (q r : ℕ) → phase ≡ Phase.Two → w .passage .round .kind ≡ Kind.Refresh q r → Below w l q
   pub closed-quiet :
       phase ≡ Phase.Two → isBinding (w .passage .round .kind) ≡ true
@@ -139,7 +139,7 @@ pub holds-after-restated :
     (w : View) (l : Ledger) (status : Status) (phase : Phase) → Holds w l
     → (status ≢ Status.Free)
     → (isOver (w .passage .status) ≡ true → isOver status ≡ true)
-    → (phase ≡ Phase.One → hasAnswered (w .passage .round) (w .passage .home) ≡ true)
+    → (phase ≢ Phase.None → hasAnswered (w .passage .round) (w .passage .home) ≡ true)
     → ((q r : ℕ) → phase ≡ Phase.Two → w .passage .round .kind ≡ Kind.Refresh q r → Below w l q)
     → (phase ≡ Phase.Two → isBinding (w .passage .round .kind) ≡ true → Quiet (restated w status phase) l)
     → ((s : ℕ) → l s .seen ≡ true → phase ≡ Phase.Two → w .passage .round .kind ≡ Kind.Terminate
@@ -181,7 +181,7 @@ holds-after-aborted w l h =
     h
     (λ e. false≢true (ap isFree e))
     (λ e. refl)
-    (λ e. absurd (false≢true (ap isPhaseOne e)))
+    (λ e. absurd (e refl))
     (λ q r e. absurd (false≢true (ap isPhaseTwo e)))
     (λ e. absurd (false≢true (ap isPhaseTwo e)))
     (λ s y e. absurd (false≢true (ap isPhaseTwo e)))
@@ -257,7 +257,7 @@ module _ (w : View) (l : Ledger) (s : ℕ) (f : Figures) (h : Holds w l) (i : s 
       h
     where
       home :
-          w .passage .round .phase ≡ Phase.One
+          w .passage .round .phase ≢ Phase.None
           → hasAnswered (withAnswer (w .passage .round) s f) (w .passage .home) ≡ true
       home e =
           ⊎-elim

@@ -140,7 +140,7 @@ pub record PassageFine (w : View) (l : Ledger) : Type 0 where
   pub kept :
       (v : ℕ) → v < 8 → hasAnswered (w .passage .round) v ≡ true
       → FigureFine w l v (figuresAt (w .passage .round) v)
-  pub home-answers : w .passage .round .phase ≡ Phase.One → hasAnswered (w .passage .round) (w .passage .home) ≡ true
+  pub home-answers : w .passage .round .phase ≢ Phase.None → hasAnswered (w .passage .round) (w .passage .home) ≡ true
   pub refresh-one : (q r : ℕ) → w .passage .round .kind ≡ Kind.Refresh q r → q ≤ r
   pub refresh-two :
       (q r : ℕ) → w .passage .round .phase ≡ Phase.Two → w .passage .round .kind ≡ Kind.Refresh q r → Below w l q
