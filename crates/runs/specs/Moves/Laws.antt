@@ -1,5 +1,5 @@
--- What the moves have in common: what a slot's ledger says after a store, that no visit is made twice, and that a quiesce time never comes down below the clock.
--- Assumes nothing.
+-- What the moves have in common: what a slot's ledger says after a store, that no visit is made twice,
+-- and that a quiesce time never comes down below the clock. Assumes nothing.
 use Prim.Native.Nat.{ℕ, _<_, _≤_}
 use native.Mathlib.Omega.{arith}
 use mathlib.Core.Path.{_≡_, refl, sym, ap, _∙_}
