@@ -14,7 +14,7 @@ use Rattle.rules.specs.Machine.{lookOf, seenOf, decideOf, foundOf, headOf, trip
 use Rattle.rules.specs.StoredLaws.{turn-stored}
 use Rattle.rules.specs.RangesLaws.{placed-places, placed-trip}
 use Rattle.rules.specs.Runs.{Started, runOf, historyOf}
-use Rattle.runs.specs.Types.{Kind, Phase, Status, Passage, Visit, Asked, Message, Tables, Step, Outcome}
+use Rattle.runs.specs.Types.{Kind, Phase, Status, Passage, Visit, Asked, Message, Tables, Step, Outcome, Seen}
 use Rattle.runs.specs.Walk.Says.{isPrepare}
 use Rattle.runs.specs.Walk.Steps.{placesAt, seenAt, run-on}
 use Rattle.runs.specs.Walk.Sound.{Sound, sound-step-has}
@@ -106,7 +106,8 @@ module _ (s : Status) (over : isOver s ≡ true) where
 
   over-turned : {w : View} {a : ℕ} {p : Passage} {v : Visit} {trip : Trip} → w .passage .status ≡ s → Turn w a p v trip → p .status ≡ s
   over-turned x (Turn.Stays trip e y) = ap (λ (q : Passage). q .status) e ∙ x
-  over-turned {w = w} x (Turn.Sweeps site true active e was unprepared y) = absurd (not-running (ap isRunning (sym x) ∙ active-runs (w .passage .status) (active refl)))
+  over-turned {w = w} x (Turn.Sweeps site true active e was unprepared y) =
+      absurd (not-running (ap isRunning (sym x) ∙ active-runs (w .passage .status) (active refl)))
   over-turned x (Turn.Sweeps site false active e was unprepared y) = ap (λ (q : Passage). q .status) e ∙ x
   over-turned x (Turn.Crashes site true hits runs e unhit y) = absurd (not-running (ap isRunning (sym x) ∙ runs refl))
   over-turned x (Turn.Crashes site false hits runs e unhit y) = ap (λ (q : Passage). q .status) e ∙ x
@@ -168,7 +169,8 @@ committed-moved n (Move.Rests e y i z) x = absurd (n (ap (λ (q : Passage). q .s
 committed-moved n (Move.Tells e y i home two silent word) x = absurd (n (ap (λ (q : Passage). q .status) (sym e) ∙ x))
 committed-moved n (Move.Begins free status round i z) x = absurd (true≢false (ap isRunning (sym status ∙ x)))
 committed-moved n (Move.Retires g status round y i) x = absurd (true≢false (ap isFree (sym status ∙ x)))
-committed-moved {w = w} n (Move.Opens kind from home was e y i z) x = absurd (n (asked-committed (askedOf kind) (w .passage .status) (ap (λ (q : Passage). q .status) (sym e) ∙ x)))
+committed-moved {w = w} n (Move.Opens kind from home was e y i z) x =
+    absurd (n (asked-committed (askedOf kind) (w .passage .status) (ap (λ (q : Passage). q .status) (sym e) ∙ x)))
 committed-moved {w = w} n (Move.Closes home one closed e y i z) x =
     record {
       kind = told-committed (w .passage .round .kind) (largestQuiesce (w .passage .round)) (w .passage .status) (ap (λ (q : Passage). q .status) (sym e) ∙ x) n;
@@ -219,6 +221,7 @@ module _ (t : Tables) (ls : ℕ → Ledger) (step : Step) (p : ℕ) (k : Pledged
       (trip : Trip) (i : ℕ) (o : Outcome) → i < 16 → Sound (o .tables) → passageAt (turnOf trip i o .tables) p .status ≡ Status.Committed
       → passageAt (o .tables) p .status ≡ Status.Committed
   turn-commits trip i o l z =
+      let left : Seen = turnSeen trip i (seenOf (o .tables) (tripPlaces trip i)) in
       rw
       (turn-stored trip i o)
       (passage-has
@@ -229,7 +232,11 @@ module _ (t : Tables) (ls : ℕ → Ledger) (step : Step) (p : ℕ) (k : Pledged
       (z .sized)
       (placed-trip trip i l)
       p
-      (λ own. subst (λ (q : ℕ). turnSeen trip i (seenOf (o .tables) (tripPlaces trip i)) .passage .status ≡ Status.Committed → passageAt (o .tables) q .status ≡ Status.Committed) (sym own) (committed-turned (turn-of (o .tables) trip i)))
+      (λ own.
+      subst
+      (λ (q : ℕ). left .passage .status ≡ Status.Committed → passageAt (o .tables) q .status ≡ Status.Committed)
+      (sym own)
+      (committed-turned (turn-of (o .tables) trip i)))
       (λ x. x))
 
   pub committed-by-closing : passageAt (stepOf t step .tables) p .status ≡ Status.Committed → ClosesCommit (passageAt t p)

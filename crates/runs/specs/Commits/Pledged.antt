@@ -45,7 +45,8 @@ module _ (t : Tables) (at : Places) (left : Seen) (z : Sized t) (h : Placed at) 
   -- another slot sees its passage, its visits and its messages as they were
   vow-after-other : (p : ℕ) (l : Ledger) → p < 16 → p ≢ at .slot → Vow (viewOf t p) l → Vow (viewOf (stored t at left) p) l
   vow-after-other p l b n o =
-      let same : mailOf p (left .message) ≡ mailOf p (messageAt t (at .message)) = mail-after-other (at .slot) p (messageAt t (at .message)) (left .message) (x .mail) n in
+      let same : mailOf p (left .message) ≡ mailOf p (messageAt t (at .message)) =
+      mail-after-other (at .slot) p (messageAt t (at .message)) (left .message) (x .mail) n in
       rw
       (other-view t at left z h p b n)
       (record {

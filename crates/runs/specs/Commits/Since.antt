@@ -169,7 +169,14 @@ module _ (P : View → Ledger → Type 0) (Way : Trip → View → Type 0) (carr
       subst (λ (q : ℕ). P (viewOf (stored t at left) q) (nextLedgers ls at (seenOf t at) left q)) (sym own)
       (subst₂ P
       (sym (own-view t at left (k .kept .sound .sized) (placed-places t (lookOf step))))
-      (sym (when-false (λ (l : Ledger). l ≡ ledgerNoted (ls (at .slot)) (at .site) (messageAt t (at .message) .source) (left .visit)) (isFree (left .passage .status)) noLedger _ free refl)
+      (sym
+      (when-false
+      (λ (l : Ledger). l ≡ ledgerNoted (ls (at .slot)) (at .site) (messageAt t (at .message) .source) (left .visit))
+      (isFree (left .passage .status))
+      noLedger
+      _
+      free
+      refl)
       ∙ sym (put-same ls (at .slot) (nextLedger (ls (at .slot)) (at .site) (seenOf t at) left)))
       (carries .moved (ls (at .slot)) (messageAt t (at .message) .source) hold (k .vows (at .slot) (placed-places t (lookOf step) .slot)) here move free)))
       (λ n.
@@ -198,9 +205,18 @@ module _ (P : View → Ledger → Type 0) (Way : Trip → View → Type 0) (carr
       (own-view t at left (k .kept .sound .sized) (placed-trip trip n i)
       ∙ ap (λ (c : ℕ). leftView (viewOf t n) (at .site) 0 (left .passage) (left .visit) c (mailOf n (left .message))) clock
       ∙ ap (λ (m : Message). leftView (viewOf t n) (at .site) 0 (left .passage) (left .visit) (siteAt t (at .site) .clock) m) mail))
-      (sym (when-false (λ (l : Ledger). l ≡ ledgerNoted (ls n) (at .site) (messageAt t 0 .source) (left .visit)) (isFree (left .passage .status)) noLedger _ free refl)
+      (sym
+      (when-false
+      (λ (l : Ledger). l ≡ ledgerNoted (ls n) (at .site) (messageAt t 0 .source) (left .visit))
+      (isFree (left .passage .status))
+      noLedger
+      _
+      free
+      refl)
       ∙ sym (put-same ls n (nextLedger (ls n) (at .site) (seenOf t at) left)))
-      (carries .turned trip (ls n) (messageAt t 0 .source) 0 refl hold (k .vows n i) here (subst (λ (q : ℕ). Way trip (viewOf t q)) own way) (turn-of t trip n))))
+      (carries .turned trip (ls n) (messageAt t 0 .source) 0 refl hold (k .vows n i) here
+      (subst (λ (q : ℕ). Way trip (viewOf t q)) own way)
+      (turn-of t trip n))))
       (λ other. rested t at left (k .kept .sound .sized) (placed-trip trip n i) (fitting-after-turned t trip n) other ls k y)
       (same-or-other p n))
 

@@ -71,7 +71,9 @@ module _ (w : View) (l : Ledger) (a k c source : ℕ) (v : Visit) (m : Message) 
             λ kind one.
             sites-after w l a source v
             (λ s x y. y .seen ≡ true → y .last .round ≡ p .round .number → (x .there ≡ true) × (x .prepared ≡ true))
-            (λ there y seen last s r. (there, here .asked (sym (same .kind) ∙ kind) (sym (same .phase) ∙ one) there (ap (λ (z : Visit). z .round) (sym last) ∙ r ∙ same .number)))
+            (λ there y seen last s r.
+            let number : v .round ≡ w .passage .round .number = ap (λ (z : Visit). z .round) (sym last) ∙ r ∙ same .number in
+            (there, here .asked (sym (same .kind) ∙ kind) (sym (same .phase) ∙ one) there number))
             (λ gone s r.
             let before = o .asked (sym (same .kind) ∙ kind) (sym (same .phase) ∙ one) a s (r ∙ same .number) in
             absurd (false≢true (sym gone ∙ here .gone (sym (same .kind) ∙ kind) (sym (same .phase) ∙ one) (before .0) (before .1))))
@@ -308,8 +310,9 @@ module _ (w : View) (l : Ledger) (a k c source : ℕ) (v : Visit) (m : Message) 
 
       home-gone : w .passage .round .kind ≡ Kind.Prepare → (w .visit a .there ≡ true) ⊎ (w .visit a .there ≡ false) → v .there ≡ true → ⊥
       home-gone kind (inl y) there =
-          false≢true
-          (ap (λ (x : Visit). x .there) (sym (e ∙ where-is (w .visit a) _ y ∙ ap (λ (x : Kind). toldVisit (toldOf x (largestQuiesce (w .passage .round))) (w .visit a)) kind)) ∙ there)
+          let told : v ≡ toldVisit Told.Prepare (w .visit a) =
+          e ∙ where-is (w .visit a) _ y ∙ ap (λ (x : Kind). toldVisit (toldOf x (largestQuiesce (w .passage .round))) (w .visit a)) kind in
+          false≢true (ap (λ (x : Visit). x .there) (sym told) ∙ there)
       home-gone kind (inr y) there = false≢true (sym y ∙ ap (λ (x : Visit). x .there) (sym (e ∙ where-not (w .visit a) _ y)) ∙ there)
 
   -- ---- every move
@@ -343,7 +346,12 @@ module _ (w : View) (l : Ledger) (a k c source : ℕ) (v : Visit) (m : Message) 
   vow-moved p none (Move.Aborts runs e x i y) = subst After (sym e) (vow-aborted y runs)
   vow-moved p none (Move.Receives call body at e x early i y) =
       vow-stays p (as-it-was p e)
-      (here-received call body (ap (λ (z : Visit). z .there) x ∙ made-there (either (w .visit a .there))) (ap (λ (z : Visit). z .round) x) (ap (λ (z : Visit). z .prepared) x))
+      (here-received
+      call
+      body
+      (ap (λ (z : Visit). z .there) x ∙ made-there (either (w .visit a .there)))
+      (ap (λ (z : Visit). z .round) x)
+      (ap (λ (z : Visit). z .prepared) x))
       (sent-empty p y)
     where
       made-there : (w .visit a .there ≡ true) ⊎ (w .visit a .there ≡ false) → calledVisit call (w .visit a) .there ≡ true
@@ -375,7 +383,9 @@ module _ (w : View) (l : Ledger) (a k c source : ℕ) (v : Visit) (m : Message) 
             λ kind one now r.
             let was : w .visit a .there ≡ true = struck-there now in
             let seen = h .mirror a was in
-            absurd (true≢false (sym (o .asked kind one a (seen .0) (ap (λ (z : Visit). z .round) (seen .1) ∙ sym (ap (λ (z : Visit). z .round) (struck was)) ∙ r) .1) ∙ unhit refl refl));
+            let number : l a .last .round ≡ w .passage .round .number =
+            ap (λ (z : Visit). z .round) (seen .1) ∙ sym (ap (λ (z : Visit). z .round) (struck was)) ∙ r in
+            absurd (true≢false (sym (o .asked kind one a (seen .0) number .1) ∙ unhit refl refl));
         gone = λ kind one was y. absurd (true≢false (sym y ∙ unhit refl refl));
         told = λ kind two now. absurd (true≢false (sym (o .told kind two a (struck-there now) .0) ∙ unhit refl refl));
       })
@@ -385,7 +395,11 @@ module _ (w : View) (l : Ledger) (a k c source : ℕ) (v : Visit) (m : Message) 
       struck was = x ∙ where-is (w .visit a) _ was
 
       struck-there : v .there ≡ true → w .visit a .there ≡ true
-      struck-there now = ⊎-elim (λ y. y) (λ y. absurd (false≢true (sym y ∙ ap (λ (z : Visit). z .there) (sym (x ∙ where-not (w .visit a) _ y)) ∙ now))) (either (w .visit a .there))
+      struck-there now =
+          ⊎-elim
+          (λ y. y)
+          (λ y. absurd (false≢true (sym y ∙ ap (λ (z : Visit). z .there) (sym (x ∙ where-not (w .visit a) _ y)) ∙ now)))
+          (either (w .visit a .there))
   vow-turned p f (Turn.Crashes site false false runs e unhit x) =
       vow-stays p (as-it-was p e)
       (here-same (x ∙ cond-keeps (λ (z : Visit). z ≡ w .visit a) (w .visit a .there) (w .visit a) (w .visit a) refl refl))

@@ -1,4 +1,5 @@
--- Home's word is that of a committed passage: after the close of its commit round, and after every delivery of its word, the passage is committed. Assumes nothing.
+-- Home's word is that of a committed passage: after the close of its commit round, and after every delivery of its word, the passage is committed.
+-- Assumes nothing.
 use Prim.Native.Nat.{ℕ, _%_, _<_}
 use mathlib.Core.Path.{_≡_, refl, sym, ap, _∙_, subst}
 use mathlib.Core.Bool.{true, false, _&&_, false≢true}
@@ -14,7 +15,7 @@ use Rattle.rules.specs.Machine.{lookOf, placesOf, decideOf, headOf, stepOf}
 use Rattle.rules.specs.RangesLaws.{placed-places}
 use Rattle.rules.specs.StoredLaws.{passage-after-stored}
 use Rattle.rules.specs.Views.{Objects, deedOf}
-use Rattle.runs.specs.Types.{Kind, Phase, Status, Body, Message, Tables, Step, Seen}
+use Rattle.runs.specs.Types.{Kind, Phase, Status, Passage, Body, Message, Tables, Step, Seen}
 use Rattle.runs.specs.Walk.Says.{carriesCommit}
 use Rattle.runs.specs.Walk.Steps.{placesAt, seenAt, head-accepted}
 use Rattle.runs.specs.Events.HoldSteps.{and-false}
@@ -96,10 +97,16 @@ module _ (t : Tables) (ls : ℕ → Ledger) (k : Pledged t ls) (p : ℕ) (slot :
       → passageAt (stepOf t (Step.Close h) .tables) p .status ≡ Status.Committed
   unfolding placesOf decideOf closeOf
   closed-commits h own closes a =
-      rw
-      (single-stored t (Step.Close h) refl a, ← own, passage-after-stored t (placesAt t (Step.Close h)) (decisionAt t (Step.Close h) .left) (k .kept .sound .sized) (placed-places t (lookOf (Step.Close h))))
-      (ap (λ (x : Seen). x .passage .status) (settle-accepted (closeDone h (seenAt t (Step.Close h))) (seenAt t (Step.Close h)) (decision-accepted t (Step.Close h) a))
-      ∙ ap (λ (x : Kind). toldStatus (toldOf x (largestQuiesce (passageAt t (slotOf h) .round))) (passageAt t (slotOf h) .status)) (subst (λ (q : ℕ). passageAt t q .round .kind ≡ Kind.Prepare) (sym own) (closes .kind)))
+      let step : Step = Step.Close h in
+      let passage : Passage = passageAt t (slotOf h) in
+      let kind : passage .round .kind ≡ Kind.Prepare = subst (λ (q : ℕ). passageAt t q .round .kind ≡ Kind.Prepare) (sym own) (closes .kind) in
+      rw (
+        single-stored t step refl a,
+        ← own,
+        passage-after-stored t (placesAt t step) (decisionAt t step .left) (k .kept .sound .sized) (placed-places t (lookOf step)),
+      )
+      (ap (λ (x : Seen). x .passage .status) (settle-accepted (closeDone h (seenAt t step)) (seenAt t step) (decision-accepted t step a))
+      ∙ ap (λ (x : Kind). toldStatus (toldOf x (largestQuiesce (passage .round))) (passage .status)) kind)
 
   word-commits :
       (step : Step) (site : ℕ) → WordOf t site p step → isAccepted (stepOf t step .answer) ≡ true

@@ -1,6 +1,7 @@
 -- What an accepted store does to the passage slot that it is for, by kinds: one for each way in which a step may move a passage, its visit and its mail.
 -- A law about a passage along a run then has a row for each kind, and none for each step.
--- w is the slot's view before, a the site and k the message slot of the store; p, v, c and m are the passage, the visit at a, the clock of a and the message at k after it. Assumes nothing.
+-- w is the slot's view before, a the site and k the message slot of the store;
+-- p, v, c and m are the passage, the visit at a, the clock of a and the message at k after it. Assumes nothing.
 use Prim.Native.Nat.{ℕ, _+_, _<_, _≤_}
 use mathlib.Core.Path.{_≡_}
 use mathlib.Core.Logic.{_⊎_}

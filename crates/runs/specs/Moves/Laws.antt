@@ -1,4 +1,5 @@
--- What the moves have in common: what a slot's ledger says after a store, that no visit is made twice, and that a quiesce time never comes down below the clock. Assumes nothing.
+-- What the moves have in common: what a slot's ledger says after a store, that no visit is made twice,
+-- and that a quiesce time never comes down below the clock. Assumes nothing.
 use Prim.Native.Nat.{ℕ, _<_, _≤_}
 use native.Mathlib.Omega.{arith}
 use mathlib.Core.Path.{_≡_, refl, sym, ap, _∙_}
@@ -101,13 +102,15 @@ quiesce-after l h (Move.Rests p v i m) x e y j n = rw (v .quiesce) j
 quiesce-after l h (Move.Tells p v i q two b f) x e y j n = rw v j
 quiesce-after {a = a} l h (Move.Begins free s r i m) x e y j n = absurd (false≢true (sym (h .free free .visits a) ∙ e))
 quiesce-after l h (Move.Retires g s r v i) x e y j n = rw v j
-quiesce-after {w = w} {a = a} {c = c} l h (Move.Opens kind from q there p v i m) x e y j n = rw v (later-asked (askedOf kind) _ c x (w .visit a) j (omega arith))
+quiesce-after {w = w} {a = a} {c = c} l h (Move.Opens kind from q there p v i m) x e y j n =
+    rw v (later-asked (askedOf kind) _ c x (w .visit a) j (omega arith))
 quiesce-after {w = w} {a = a} {v = v} l h (Move.Closes q one closed p u i m) x e y j n =
     let t : v ≡ toldVisit (roundTold (w .passage .round)) (w .visit a) = u ∙ where-is (w .visit a) _ e in
     rw t (later-told (roundTold (w .passage .round)) x (w .visit a) j (ap (λ (z : Visit). z .there) (sym t) ∙ y))
 quiesce-after {w = w} {a = a} l h (Move.Aborts runs p v i m) x e y j n = rw (v, e) (omega arith)
 quiesce-after {w = w} {a = a} l h (Move.Receives call body at p v early i m) x e y j n = rw (v, e) j
-quiesce-after {w = w} {a = a} {c = c} l h (Move.Replies b asked body p there round v i q f) x e y j n = rw v (later-asked asked b c x (w .visit a) j (omega arith))
+quiesce-after {w = w} {a = a} {c = c} l h (Move.Replies b asked body p there round v i q f) x e y j n =
+    rw v (later-asked asked b c x (w .visit a) j (omega arith))
 quiesce-after {w = w} {a = a} l h (Move.Hears b told body p there v i m) x e y j n =
     rw v (later-told told x (w .visit a) j (ap (λ (z : Visit). z .there) (sym v) ∙ y))
 quiesce-after l h (Move.Collects b r q body number at p v i stamp m) x e y j n = rw v j

@@ -1,5 +1,6 @@
 -- Every accepted step's own store is one of the moves, and every slot of a sweep or a crash one of the turns.
--- The idea: the checks that an accepted step has passed are what its move asks for; that a round's message never comes to home is a clause of the time rule. Assumes nothing.
+-- The idea: the checks that an accepted step has passed are what its move asks for; that a round's message never comes to home is a clause of the time rule.
+-- Assumes nothing.
 use Prim.Native.Nat.{ℕ, _+_, _%_, _<_, _≤_}
 use native.Mathlib.Omega.{arith}
 use mathlib.Core.Path.{_≡_, refl, sym, ap, _∙_, subst}
@@ -34,13 +35,28 @@ use Rattle.runs.specs.Moves.Definitions.{Alike, isAnswer, Plain, OpenedF
 
 -- what a store at these places does to its own slot
 abbrev pub MoveAt : Step → Tables → Places → Seen → Type 0
-MoveAt step t at left = Move step (viewOf t (at .slot)) (at .site) (at .message) (left .passage) (left .visit) (left .site .clock) (mailOf (at .slot) (left .message))
+MoveAt step t at left =
+    Move step
+    (viewOf t (at .slot))
+    (at .site)
+    (at .message)
+    (left .passage)
+    (left .visit)
+    (left .site .clock)
+    (mailOf (at .slot) (left .message))
 
 -- an accepted decision leaves what it decided
 move-settled :
     {step : Step} (t : Tables) (at : Places) (d : Decision) → isAccepted (d .answer) ≡ true → MoveAt step t at (d .left)
     → MoveAt step t at (settleOf d (seenOf t at) .left)
 move-settled {step} t at d e x = subst (MoveAt step t at) (sym (settle-accepted d (seenOf t at) e)) x
+
+-- the same of a step that decides by what it sees
+step-settled :
+    (t : Tables) (step : Step) (done : Seen → Decision) → isAccepted (done (seenAt t step) .answer) ≡ true
+    → MoveAt step t (placesAt t step) (done (seenAt t step) .left)
+    → MoveAt step t (placesAt t step) (settleOf (done (seenAt t step)) (seenAt t step) .left)
+step-settled t step done = move-settled t (placesAt t step) (done (seenAt t step))
 
 -- ---- what the checks say
 
@@ -81,18 +97,27 @@ module _ (t : Tables) (l : Ledger) where
 
   -- only the site's clock moves
   site-move :
-      {step : Step} (at : Places) (left : Seen) → left .passage ≡ passageAt t (at .slot) → left .visit ≡ visitAt t (at .site) (at .slot)
-      → left .message ≡ messageAt t (at .message)
-      → siteAt t (at .site) .clock ≤ left .site .clock → MoveAt step t at left
-  site-move at left p v m i =
-      Move.Rests p (subst (Alike (visitAt t (at .site) (at .slot))) (sym v) (alike-same _)) i (inl (ap (mailOf (at .slot)) m))
+      (step : Step) (done : Seen → Decision) → isAccepted (done (seenAt t step) .answer) ≡ true
+      → done (seenAt t step) .left .passage ≡ seenAt t step .passage
+      → done (seenAt t step) .left .visit ≡ seenAt t step .visit
+      → done (seenAt t step) .left .message ≡ seenAt t step .message
+      → seenAt t step .site .clock ≤ done (seenAt t step) .left .site .clock
+      → MoveAt step t (placesAt t step) (settleOf (done (seenAt t step)) (seenAt t step) .left)
+  site-move step done e p v m i =
+      step-settled t step done e
+      (Move.Rests p (subst (Alike (seenAt t step .visit)) (sym v) (alike-same _)) i (inl (ap (mailOf (placesAt t step .slot)) m)))
 
   -- a message that is no word goes out, or one is lost
   plain-move :
-      {step : Step} (at : Places) (left : Seen) → left .passage ≡ passageAt t (at .slot)
-      → Alike (visitAt t (at .site) (at .slot)) (left .visit)
-      → siteAt t (at .site) .clock ≤ left .site .clock → Plain (left .message) → MoveAt step t at left
-  plain-move at left p v i m = Move.Rests p v i (inr (seen-plain (at .slot) (left .message) m))
+      (step : Step) (done : Seen → Decision) → isAccepted (done (seenAt t step) .answer) ≡ true
+      → done (seenAt t step) .left .passage ≡ seenAt t step .passage
+      → Alike (seenAt t step .visit) (done (seenAt t step) .left .visit)
+      → seenAt t step .site .clock ≤ done (seenAt t step) .left .site .clock
+      → Plain (done (seenAt t step) .left .message)
+      → MoveAt step t (placesAt t step) (settleOf (done (seenAt t step)) (seenAt t step) .left)
+  plain-move step done e p v i m =
+      step-settled t step done e
+      (Move.Rests p v i (inr (seen-plain (placesAt t step .slot) (done (seenAt t step) .left .message) m)))
 
   -- what a round of this kind tells is a commit where the kind is prepare
   told-prepare : (kind : Kind) (m : ℕ) → tellsPrepare (toldOf kind m) ≡ true → isPrepare kind ≡ true
@@ -169,7 +194,8 @@ module _ (t : Tables) (at : Places) (m : ℕ) (l : Ledger) (own : slotOf (messag
       → Fine (roundChecks m (asksLife asked) (leb n (seen .visit .round)) (mailClock seen) seen)
       → MoveAt (Step.Deliver m) t at (phaseOneDone m n asked seen .left)
   phase-one-move n asked body fine =
-      let away : atHome seen ≡ false = not-home (Body.PhaseOne n asked) body refl (h .mail (at .message) .one n asked (mine (Body.PhaseOne n asked) body refl) .away) in
+      let away : atHome seen ≡ false =
+      not-home (Body.PhaseOne n asked) body refl (h .mail (at .message) .one n asked (mine (Body.PhaseOne n asked) body refl) .away) in
       Move.Replies
       n
       asked
@@ -189,14 +215,21 @@ module _ (t : Tables) (at : Places) (m : ℕ) (l : Ledger) (own : slotOf (messag
       (λ e. absurd (false≢true e))))
     where
       reply : Message
-      reply = answerMessage (askedVisit asked n (mailClock seen) (visitAt t (at .site) (at .slot))) (letter .destination) (passageAt t (at .slot) .home) (letter .handle) (mailClock seen)
+      reply =
+          answerMessage
+          (askedVisit asked n (mailClock seen) (visitAt t (at .site) (at .slot)))
+          (letter .destination)
+          (passageAt t (at .slot) .home)
+          (letter .handle)
+          (mailClock seen)
 
   phase-two-move :
       (n : ℕ) (told : Told) → letter .body ≡ Body.PhaseTwo n told
       → Fine (roundChecks m (tellsLife told) (not (eqb n (seen .visit .round))) (mailClock seen) seen)
       → MoveAt (Step.Deliver m) t at (phaseTwoDone m n told seen .left)
   phase-two-move n told body fine =
-      let away : atHome seen ≡ false = not-home (Body.PhaseTwo n told) body refl (h .mail (at .message) .two n told (mine (Body.PhaseTwo n told) body refl) .0) in
+      let away : atHome seen ≡ false =
+      not-home (Body.PhaseTwo n told) body refl (h .mail (at .message) .two n told (mine (Body.PhaseTwo n told) body refl) .0) in
       Move.Hears
       n
       told
@@ -217,7 +250,9 @@ module _ (t : Tables) (at : Places) (m : ℕ) (l : Ledger) (own : slotOf (messag
       received
       q
       (mine (Body.Answer n received q) body refl)
-      (eqb-true _ _ (not-false _ (or-right (isFree (passageAt t (at .slot) .status) || not (isPhaseOne (passageAt t (at .slot) .round .phase))) _ (fine .round))))
+      (eqb-true _ _
+      (not-false _
+      (or-right (isFree (passageAt t (at .slot) .status) || not (isPhaseOne (passageAt t (at .slot) .round .phase))) _ (fine .round))))
       (letter-here t at m own here kin (Body.Answer n received q) body refl)
       (rw same)
       refl
@@ -252,50 +287,49 @@ module _ (t : Tables) (range : inRange t ≡ true) (l : Ledger) where
       → isAccepted (decideOf step (foundOf t (placesAt t step)) (seenAt t step) .answer) ≡ true
       → MoveAt step t (placesAt t step) (decideOf step (foundOf t (placesAt t step)) (seenAt t step) .left)
   unfolding placesOf decideOf tickOf sweepOf crashOf recoverOf beginOf abortOf retireOf refreshOf terminateOf prepareOf openOf askOf closeOf tellOf invokeOf dropOf
-  move-of (Step.Tick site n) h e =
-      move-settled t (placesAt t (Step.Tick site n)) (tickDone site n (seenAt t (Step.Tick site n))) e (site-move t l (placesAt t (Step.Tick site n)) (tickDone site n (seenAt t (Step.Tick site n)) .left) refl refl refl (omega arith))
+  move-of (Step.Tick site n) h e = site-move t l (Step.Tick site n) (tickDone site n) e refl refl refl (omega arith)
   move-of (Step.Begin home slot q r) h e =
-      move-settled t (placesAt t (Step.Begin home slot q r)) (beginDone home slot q r (seenAt t (Step.Begin home slot q r))) e
+      step-settled t (Step.Begin home slot q r) (beginDone home slot q r) e
       (Move.Begins (free-says _ (not-false _ (accepted-fine _ _ e .state))) refl refl (omega arith) refl)
   move-of (Step.Invoke h site write object value) k e =
-      move-settled t (placesAt t (Step.Invoke h site write object value)) (invokeDone h site write object value _ (seenAt t (Step.Invoke h site write object value))) e
-      (plain-move t l (placesAt t (Step.Invoke h site write object value)) (invokeDone h site write object value (placesAt t (Step.Invoke h site write object value) .message) (seenAt t (Step.Invoke h site write object value)) .left)
+      plain-move t l (Step.Invoke h site write object value) (invokeDone h site write object value _) e
       refl
       (record { there = refl; prepared = refl; round = refl; quiesce = refl; release = refl })
       (omega arith)
-      (record { commit = refl; answer = refl }))
+      (record { commit = refl; answer = refl })
   move-of (Step.Refresh h q r) k e =
-      move-settled t (placesAt t (Step.Refresh h q r)) (openDone h (Kind.Refresh q r) (badHandle h || badTimes q r) (not (isActive (seenAt t (Step.Refresh h q r) .passage .status))) (seenAt t (Step.Refresh h q r))) e
+      step-settled t (Step.Refresh h q r) (λ seen. openDone h (Kind.Refresh q r) (badHandle h || badTimes q r) (not (isActive (seen .passage .status))) seen) e
       (open-move t l h (Kind.Refresh q r) _ _ k (accepted-fine _ _ e) (active-says _ (not-false _ (accepted-fine _ _ e .state))))
   move-of (Step.Terminate h) k e =
-      move-settled t (placesAt t (Step.Terminate h)) (openDone h Kind.Terminate (badHandle h) (not (isAborted (seenAt t (Step.Terminate h) .passage .status))) (seenAt t (Step.Terminate h))) e
+      step-settled t (Step.Terminate h) (λ seen. openDone h Kind.Terminate (badHandle h) (not (isAborted (seen .passage .status))) seen) e
       (open-move t l h Kind.Terminate _ _ k (accepted-fine _ _ e) (aborted-says _ (not-false _ (accepted-fine _ _ e .state))))
   move-of (Step.Prepare h) k e =
-      move-settled t (placesAt t (Step.Prepare h)) (openDone h Kind.Prepare (badHandle h) (not (isRunning (seenAt t (Step.Prepare h) .passage .status))) (seenAt t (Step.Prepare h))) e
+      step-settled t (Step.Prepare h) (λ seen. openDone h Kind.Prepare (badHandle h) (not (isRunning (seen .passage .status))) seen) e
       (open-move t l h Kind.Prepare _ _ k (accepted-fine _ _ e) (not-false _ (accepted-fine _ _ e .state)))
   move-of (Step.Ask h site) k e =
-      move-settled t (placesAt t (Step.Ask h site)) (askDone h site _ (seenAt t (Step.Ask h site))) e
-      (plain-move t l (placesAt t (Step.Ask h site)) (askDone h site (placesAt t (Step.Ask h site) .message) (seenAt t (Step.Ask h site)) .left) refl (alike-same _) (omega arith) (record { commit = refl; answer = refl }))
+      plain-move t l (Step.Ask h site) (askDone h site _) e refl (alike-same _) (omega arith) (record { commit = refl; answer = refl })
   move-of (Step.Close h) k e =
-      move-settled t (placesAt t (Step.Close h)) (closeDone h (seenAt t (Step.Close h))) e
-      (Move.Closes (home-here t l (h % 16) k) (one-says _ (not-false _ (accepted-fine _ _ e .state))) (not-false _ (accepted-fine _ _ e .closed)) refl refl (omega arith) refl)
+      step-settled t (Step.Close h) (closeDone h) e
+      (Move.Closes
+      (home-here t l (h % 16) k)
+      (one-says _ (not-false _ (accepted-fine _ _ e .state)))
+      (not-false _ (accepted-fine _ _ e .closed))
+      refl
+      refl
+      (omega arith)
+      refl)
   move-of (Step.Tell h site) k e =
-      move-settled t (placesAt t (Step.Tell h site)) (tellDone h site _ (seenAt t (Step.Tell h site))) e (tell-move t l h site (placesAt t (Step.Tell h site) .message) k (accepted-fine _ _ e))
+      step-settled t (Step.Tell h site) (tellDone h site _) e
+      (tell-move t l h site (placesAt t (Step.Tell h site) .message) k (accepted-fine _ _ e))
   move-of (Step.Abort h) k e =
-      move-settled t (placesAt t (Step.Abort h)) (abortDone h (seenAt t (Step.Abort h))) e
+      step-settled t (Step.Abort h) (abortDone h) e
       (Move.Aborts (not-false _ (accepted-fine _ _ e .state)) refl refl (omega arith) refl)
   move-of (Step.Deliver m) k e = body-move m (seenOf t (deliverAt t m) .message .body) refl k e
-  move-of (Step.Drop m) k e =
-      move-settled t (placesAt t (Step.Drop m)) (dropDone m (seenAt t (Step.Drop m))) e
-      (plain-move t l (placesAt t (Step.Drop m)) (dropDone m (seenAt t (Step.Drop m)) .left) refl (alike-same _) (omega arith) empty-plain)
-  move-of (Step.Sweep site) k e =
-      move-settled t (placesAt t (Step.Sweep site)) (sweepDone site (seenAt t (Step.Sweep site))) e (site-move t l (placesAt t (Step.Sweep site)) (sweepDone site (seenAt t (Step.Sweep site)) .left) refl refl refl (omega arith))
-  move-of (Step.Crash site) k e =
-      move-settled t (placesAt t (Step.Crash site)) (crashDone site (seenAt t (Step.Crash site))) e (site-move t l (placesAt t (Step.Crash site)) (crashDone site (seenAt t (Step.Crash site)) .left) refl refl refl (omega arith))
-  move-of (Step.Recover site) k e =
-      move-settled t (placesAt t (Step.Recover site)) (recoverDone site (seenAt t (Step.Recover site))) e (site-move t l (placesAt t (Step.Recover site)) (recoverDone site (seenAt t (Step.Recover site)) .left) refl refl refl (omega arith))
-  move-of (Step.Retire h) k e =
-      move-settled t (placesAt t (Step.Retire h)) (retireDone h _ (seenAt t (Step.Retire h))) e (Move.Retires refl refl refl refl (omega arith))
+  move-of (Step.Drop m) k e = plain-move t l (Step.Drop m) (dropDone m) e refl (alike-same _) (omega arith) empty-plain
+  move-of (Step.Sweep site) k e = site-move t l (Step.Sweep site) (sweepDone site) e refl refl refl (omega arith)
+  move-of (Step.Crash site) k e = site-move t l (Step.Crash site) (crashDone site) e refl refl refl (omega arith)
+  move-of (Step.Recover site) k e = site-move t l (Step.Recover site) (recoverDone site) e refl refl refl (omega arith)
+  move-of (Step.Retire h) k e = step-settled t (Step.Retire h) (retireDone h _) e (Move.Retires refl refl refl refl (omega arith))
 
 -- ---- turns
 

@@ -1,6 +1,6 @@
 -- What a step does to an object that a passage holds: it stays as it is; or its passage operates it; or a commit's word frees it, with its value;
--- or a sweep undoes it, to the value before. The idea: while one passage holds an object a call of another is refused, so a delivered call for it is its holder's own.
--- Assumes nothing.
+-- or a sweep undoes it, to the value before.
+-- The idea: while one passage holds an object a call of another is refused, so a delivered call for it is its holder's own. Assumes nothing.
 use Prim.Native.Nat.{ℕ, _%_, _<_}
 use native.Mathlib.Omega.{arith}
 use mathlib.Core.Path.{_≡_, refl, sym, ap, _∙_, subst}

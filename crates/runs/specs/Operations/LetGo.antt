@@ -238,7 +238,8 @@ module _ (s p : ℕ) (slot : p < 16) where
       (true≢false
       (sym (there-after-head t step z there f) ∙ ap (λ (u : Tables). visitAt u s p .there) (sym (single-head t step n a)) ∙ gone))
 
-  -- a visit that is there and is gone after a step went by an accepted word of home: the close of its commit round, or the delivery there of a commit's phase 2;
+  -- a visit that is there and is gone after a step went by an accepted word of home:
+  -- the close of its commit round, or the delivery there of a commit's phase 2;
   -- or by an accepted sweep of its site, as one that a sweep may take, at a clock that has reached its release time
   pub visit-goes-by :
       (t : Tables) (step : Step) → Sound t → visitAt t s p .there ≡ true → visitAt (stepOf t step .tables) s p .there ≡ false

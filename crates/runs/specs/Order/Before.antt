@@ -49,11 +49,17 @@ module _ (t : Tables) (ls : ℕ → Ledger) (k : Pledged t ls) (s p : ℕ) (slot
   open-early = subst (λ (v : Visit). siteAt t s .clock < v .quiesce) (sym (hold .mirror s (early .there) .1)) (early .early)
 
   open-not-quiet : Quiet (viewOf t p) (ls p) → ⊥
-  open-not-quiet q = let i : ls p s .last .quiesce ≤ siteAt t s .clock = q .quiesced s open-seen in let j : siteAt t s .clock < ls p s .last .quiesce = open-early in omega arith
+  open-not-quiet q =
+      let i : ls p s .last .quiesce ≤ siteAt t s .clock = q .quiesced s open-seen in
+      let j : siteAt t s .clock < ls p s .last .quiesce = open-early in
+      omega arith
 
   -- it has not answered a round that binds
   open-unanswered : isBinding (passageAt t p .round .kind) ≡ true → ls p s .last .round ≡ passageAt t p .round .number → ⊥
-  open-unanswered b e = let i : ls p s .last .quiesce ≤ siteAt t s .clock = hold .sites s open-seen .bound b e in let j : siteAt t s .clock < ls p s .last .quiesce = open-early in omega arith
+  open-unanswered b e =
+      let i : ls p s .last .quiesce ≤ siteAt t s .clock = hold .sites s open-seen .bound b e in
+      let j : siteAt t s .clock < ls p s .last .quiesce = open-early in
+      omega arith
 
   -- so an operation has its mark right after it
   pub marked-at-once : Marked (siteAt t s .clock) s (viewOf t p) (ls p)
@@ -65,7 +71,9 @@ module _ (t : Tables) (ls : ℕ → Ledger) (k : Pledged t ls) (s p : ℕ) (slot
         answered = λ kind yes. absurd (open-unanswered (rw kind) (hold .passage .kept s (hold .sites s open-seen .place) yes .answered));
         answer =
             λ kind j n r q body number source.
-            absurd (open-unanswered (rw kind) (subst (λ (x : ℕ). ls p x .last .round ≡ passageAt t p .round .number) source (hold .mail j .answer n r q body .1 number .answered)));
+            let same : ls p s .last .round ≡ passageAt t p .round .number =
+            subst (λ (x : ℕ). ls p x .last .round ≡ passageAt t p .round .number) source (hold .mail j .answer n r q body .1 number .answered) in
+            absurd (open-unanswered (rw kind) same);
         tells = λ kind two. absurd (open-not-quiet (hold .passage .closed-quiet two (rw kind)));
         word = λ j e. absurd (open-not-quiet (word-quiet j (viewOf t p .mail j .body) refl e));
       }
@@ -97,7 +105,10 @@ word-after x s p t _ site slot c (WordOf.Closes h w) a =
     let moved : siteAt t (passageAt t (slotOf h) .home % 8) .clock + 1 ≤ siteAt (stepOf t (Step.Close h) .tables) (passageAt t (slotOf h) .home % 8) .clock =
     clock-adds t (Step.Close h) (c .pledged .kept .sound) a refl in
     let there : siteAt t site .clock + 1 ≤ siteAt (stepOf t (Step.Close h) .tables) site .clock =
-    subst (λ (y : ℕ). siteAt t y .clock + 1 ≤ siteAt (stepOf t (Step.Close h) .tables) y .clock) (ap (λ (q : ℕ). passageAt t q .home % 8) (w .slot) ∙ w .home) moved in
+    subst
+    (λ (y : ℕ). siteAt t y .clock + 1 ≤ siteAt (stepOf t (Step.Close h) .tables) y .clock)
+    (ap (λ (q : ℕ). passageAt t q .home % 8) (w .slot) ∙ w .home)
+    moved in
     let at : x ≤ siteAt t site .clock = subst (λ (y : ℕ). x ≤ siteAt t y .clock) here late in
     omega arith
 word-after x s p t _ site slot c (WordOf.Mails m w) a =
@@ -112,7 +123,8 @@ word-after x s p t _ site slot c (WordOf.Mails m w) a =
 
 -- a sweep that is due is after it: a quiesce time is at most every release time
 swept-after :
-    (x s p : ℕ) (t : Tables) (step : Step) (site : ℕ) → p < 16 → Carried (Marked x s) p t → SweptAt t step site p → x < siteAt (stepOf t step .tables) site .clock
+    (x s p : ℕ) (t : Tables) (step : Step) (site : ℕ) → p < 16 → Carried (Marked x s) p t → SweptAt t step site p
+    → x < siteAt (stepOf t step .tables) site .clock
 swept-after x s p t step site slot c w =
     let hold = c .pledged .kept .slots p slot in
     let was = hold .mirror site (w .there) in
@@ -143,7 +155,13 @@ pub let-go-at-once :
     → LetGo (siteAt (stepOf t step .tables) (objectSite k) .clock) (objectSite k) p (stepOf t step .tables)
 let-go-at-once p k t ls step slot pledged held free =
     ⊎-elim
-    (λ w. inl (record { ledgers = _; pledged = pledged-after-step t step ls pledged; has = committed-after-word t ls pledged p slot step (objectSite k) (w .0) (w .1) }))
+    (λ w.
+    inl
+    (record {
+      ledgers = _;
+      pledged = pledged-after-step t step ls pledged;
+      has = committed-after-word t ls pledged p slot step (objectSite k) (w .0) (w .1);
+    }))
     (λ w. inr (swept step w))
     (let-go-by t step k p slot (pledged .kept .sound) held free)
   where
@@ -199,19 +217,21 @@ operation-before-let-go x s p k t step slot held (inr c) e =
     let z = c .pledged .kept .sound in
     let hold = c .pledged .kept .slots p slot in
     let called = called-by t p k step e in
-    let mine : viewOf t p .mail (flatOf step .c % 32) .body ≡ Body.Call (called .call) = own-body p (mailNamed t step) (Body.Call (called .call)) (called .body) refl (called .own) in
+    let mine : viewOf t p .mail (flatOf step .c % 32) .body ≡ Body.Call (called .call) =
+    own-body p (mailNamed t step) (Body.Call (called .call)) (called .body) refl (called .own) in
     let early : siteAt (stepOf t step .tables) (operatedAt t step) .clock < visitAt (stepOf t step .tables) (operatedAt t step) p .quiesce =
     nothing-after-quiesce t p k step z e .early in
     let due : c .ledgers p s .last .release ≤ x = c .has .released in
-    let times : cond (visitAt t (operatedAt t step) p .there) (visitAt t (operatedAt t step) p .quiesce) (saidQuiesce (mailNamed t step .body)) ≤ c .ledgers p s .last .release =
+    let visit : Visit = visitAt t (operatedAt t step) p in
+    let times : cond (visit .there) (visit .quiesce) (saidQuiesce (mailNamed t step .body)) ≤ c .ledgers p s .last .release =
     ⊎-elim
     (λ there.
     let was = hold .mirror (operatedAt t step) there in
-    when-true (λ (y : ℕ). y ≤ c .ledgers p s .last .release) (visitAt t (operatedAt t step) p .there) _ _ there
+    when-true (λ (y : ℕ). y ≤ c .ledgers p s .last .release) (visit .there) _ _ there
     (subst (λ (v : Visit). v .quiesce ≤ c .ledgers p s .last .release) (was .1) (hold .sites (operatedAt t step) (was .0) .times .visits s (c .has .seen))))
     (λ missing.
-    when-false (λ (y : ℕ). y ≤ c .ledgers p s .last .release) (visitAt t (operatedAt t step) p .there) _ _ missing
+    when-false (λ (y : ℕ). y ≤ c .ledgers p s .last .release) (visit .there) _ _ missing
     (rw (called .body) (hold .mail (flatOf step .c % 32) .call (called .call) mine .times .visits s (c .has .seen))))
-    (either (visitAt t (operatedAt t step) p .there)) in
+    (either (visit .there)) in
     let same = quiesce-after-operated t p k step z e in
     subst (λ (y : ℕ). siteAt (stepOf t step .tables) y .clock < x) (station-of-operated t p k step z e held) (omega (arith, same))

@@ -110,7 +110,11 @@ module _ (t : Tables) (step : Step) (a : isAccepted (stepOf t step .answer) ≡ 
       (record { accepted = a; operation = λ y. absurd (false≢true y); held = λ y. absurd (false≢true y); freed = λ y. absurd (false≢true y) }, tt)) (
         record {
           accepted = a;
-          operation = λ y. rw (a, f .code, eq-eqb (slotOf (messageAt t (flatOf step .c % 32) .handle)) (placesOf t (lookOf step) .slot) (f .slot), f .body) (eq-eqb (c .object) (c .object) refl);
+          operation =
+              λ y.
+              rw
+              (a, f .code, eq-eqb (slotOf (messageAt t (flatOf step .c % 32) .handle)) (placesOf t (lookOf step) .slot) (f .slot), f .body)
+              (eq-eqb (c .object) (c .object) refl);
           held = λ y. absurd (false≢true y);
           freed = λ y. absurd (false≢true y);
         },

@@ -1,5 +1,6 @@
 -- An operation of a passage at one station leaves its mark everywhere: its stamp is before every quiesce time that its visit there ever has,
--- and before home's clock and the stamps of home's word once a commit round has heard of it. Carried from the operation on until the slot is retired. Assumes nothing.
+-- and before home's clock and the stamps of home's word once a commit round has heard of it.
+-- Carried from the operation on until the slot is retired. Assumes nothing.
 use Prim.Native.Nat.{ℕ, _+_, _%_, _<_, _≤_}
 use native.Mathlib.Omega.{arith}
 use mathlib.Core.Path.{_≡_, refl, sym, ap, _∙_, subst}
@@ -120,7 +121,8 @@ module _ (x s : ℕ) where
           answered = λ e yes. rw home (answered (sym kind ∙ e) yes);
           answer =
               λ e j n r q body same source.
-              mail-answer (w .passage .round .number) (sym kind ∙ e) (λ j n r q b y. y) (λ n r q b y z. new n r q (sym kind ∙ e) b y z) j n r q body (same ∙ number) source;
+              let late = mail-answer (w .passage .round .number) (sym kind ∙ e) (λ j n r q b y. y) (λ n r q b y z. new n r q (sym kind ∙ e) b y z) in
+              late j n r q body (same ∙ number) source;
           tells = λ e two. rw home (tells (sym kind ∙ e) two);
           word = mail-word word;
         }
@@ -220,7 +222,16 @@ module _ (x s : ℕ) where
         (λ other.
         risen w a c (w .passage .home) i
         (o .answered kind
-        (sym (answered-other (w .passage .round) (w .mail k .source) (sentFigures (w .mail k) received q) (h .posted k (ap isEmpty body) .1) s (h .sites s (o .seen) .place) other) ∙ yes)))
+        (sym
+        (answered-other
+        (w .passage .round)
+        (w .mail k .source)
+        (sentFigures (w .mail k) received q)
+        (h .posted k (ap isEmpty body) .1)
+        s
+        (h .sites s (o .seen) .place)
+        other)
+        ∙ yes)))
         (same-or-other s (w .mail k .source)))
         (λ kind two. risen w a c (w .passage .home) i (o .tells kind two))
         (silent-answer e)

@@ -1,5 +1,7 @@
--- Nobody operates on both sides of another: of two different uses of slots, no run has the first operating an object before the second does, and the second operating another object before the first does.
--- The idea: between the two operations of the one object the first has let it go, at a smaller stamp than the second's operation; so every operation of the first is before it, and the other way round. Assumes nothing.
+-- Nobody operates on both sides of another: of two different uses of slots, no run has the first operating an object before the second does,
+-- and the second operating another object before the first does.
+-- The idea: between the two operations of the one object the first has let it go, at a smaller stamp than the second's operation;
+-- so every operation of the first is before it, and the other way round. Assumes nothing.
 use Prim.Native.Nat.{ℕ, _+_, _≤_, _<_}
 use native.Mathlib.Omega.{arith}
 use mathlib.Core.Path.{_≡_, refl, sym, ap, _∙_, subst, subst₂}
@@ -40,7 +42,8 @@ delivery-moves :
     → siteAt t (operatedAt t step) .clock < siteAt (stepOf t step .tables) (operatedAt t step) .clock
 delivery-moves t q x _ (Objects.Closes h) held e = absurd (false≢true (and-right (isAccepted (stepOf t (Step.Close h) .answer)) false e))
 delivery-moves t q x _ (Objects.Delivers m) held e = delivered-after-sent t m (held .sound) (and-left _ _ e) .moved
-delivery-moves t q x _ (Objects.Stay step c d stay) held e = absurd (false≢true (sym d ∙ and-left (isStep 11 step) _ (and-right (isAccepted (stepOf t step .answer)) _ e)))
+delivery-moves t q x _ (Objects.Stay step c d stay) held e =
+    absurd (false≢true (sym d ∙ and-left (isStep 11 step) _ (and-right (isAccepted (stepOf t step .answer)) _ e)))
 
 operation-moves :
     (t : Tables) (q x : ℕ) (step : Step) → Held t → operates t q x step ≡ true
@@ -63,10 +66,17 @@ stamp-later q v x t uses (step ∷ ss) f held a y =
     (λ b.
     let h = happens t uses step f held b in
     let moved = operation-moves t (f .event .slot) (f .event .object) step held (h .means .operation (and-right (isOf q v x f) _ y)) in
-    rw (stamp-of t uses step f h) (subst (λ (k : ℕ). siteAt t (objectSite k) .clock < siteAt (stepOf t step .tables) (objectSite (f .event .object)) .clock) (of .object) moved))
+    rw
+    (stamp-of t uses step f h)
+    (subst
+    (λ (k : ℕ). siteAt t (objectSite k) .clock < siteAt (stepOf t step .tables) (objectSite (f .event .object)) .clock)
+    (of .object)
+    moved))
     (λ b.
-    let later : siteAt (stepOf t step .tables) (objectSite x) .clock < f .event .stamp = stamp-later q v x (stepOf t step .tables) (usesAfter t step uses) ss f (held-step t step held) b y in
-    let back : siteAt t (objectSite x) .clock ≤ siteAt (stepOf t step .tables) (objectSite x) .clock = clock-not-back t step (held .sound) (objectSite x) in
+    let later : siteAt (stepOf t step .tables) (objectSite x) .clock < f .event .stamp =
+    stamp-later q v x (stepOf t step .tables) (usesAfter t step uses) ss f (held-step t step held) b y in
+    let back : siteAt t (objectSite x) .clock ≤ siteAt (stepOf t step .tables) (objectSite x) .clock =
+    clock-not-back t step (held .sound) (objectSite x) in
     omega arith)
     (among-joined (withUses uses (eventsOf t step)) _ f a)
 
@@ -137,7 +147,9 @@ module _ (p u q v x : ℕ) (slot : p < 16) (f : PassageEvent) (y : isOperation q
       let-go-further p u x (withUses uses (eventsOf t step)) _ _
       (let-go-until (stepOf t step .tables) (usesAfter t step uses) ss (held-step t step held) k still (goes-on ∙ used) b))
       (λ free.
-      let g = freeing-listed p x (eventsOf t step) (subst (λ (z : Bool). heldOver (eventsOf t step) p x z ≡ false) holds (events-tell t step held p x slot ∙ free)) in
+      let freed : heldOver (eventsOf t step) p x true ≡ false =
+      subst (λ (z : Bool). heldOver (eventsOf t step) p x z ≡ false) holds (events-tell t step held p x slot ∙ free) in
+      let g = freeing-listed p x (eventsOf t step) freed in
       let e : PassageEvent = record { event = g .event; used = uses (g .event .slot) } in
       let among : Among e (withUses uses (eventsOf t step)) = among-with-uses uses (eventsOf t step) (g .event) (g .among) in
       let stamp = stamp-of t uses step e (happens t uses step e held among) in
@@ -194,7 +206,11 @@ module _ (p u q v x : ℕ) (slot : p < 16) (f : PassageEvent) (y : isOperation q
       -- an operation's slot is that of its message
       slot-of : (t : Tables) (a k : ℕ) (step : Step) → operates t a k step ≡ true → a ≡ slotOf (mailNamed t step .handle)
       slot-of t a k step w =
-          sym (eqb-true _ _ (and-left _ (callsFor k (mailNamed t step .body)) (and-right (isStep 11 step) _ (and-right (isAccepted (stepOf t step .answer)) _ w))))
+          sym
+          (eqb-true _ _
+          (and-left _
+          (callsFor k (mailNamed t step .body))
+          (and-right (isStep 11 step) _ (and-right (isAccepted (stepOf t step .answer)) _ w))))
 
 -- ---- the theorem
 
@@ -208,7 +224,8 @@ slot-below t uses (step ∷ ss) e held a =
     (λ b. slot-below (stepOf t step .tables) (usesAfter t step uses) ss e (held-step t step held) b)
     (among-joined (withUses uses (eventsOf t step)) _ e a)
 
--- two passages, use u of slot p and use v of slot q, not one and the same; in no run from the start does the first operate x before the second does, and the second y before the first does.
+-- two passages, use u of slot p and use v of slot q, not one and the same;
+-- in no run from the start does the first operate x before the second does, and the second y before the first does.
 -- In the lockmaster's story the first is the check, alive or dead, and the second the crew
 pub never-on-both-sides :
     {t₀ : Tables} → Started t₀ → (ss : List Step) (p u q v x y : ℕ) (e f g h : PassageEvent) → (p ≡ q → u ≡ v → ⊥)
@@ -222,8 +239,10 @@ never-on-both-sides {t₀} fresh ss p u q v x y e f g h other a b first c d seco
     let slot-q = subst (λ (i : ℕ). i < 16) (named q v y g _ c .slot) (slot-below t₀ (λ i. 0) ss g held (ordered-first es g h second)) in
     let one = let-go-between p u q v x slot-p f b other e a t₀ (λ i. 0) ss held first in
     let two = let-go-between q v p u y slot-q h d (λ i j. other (sym i) (sym j)) g c t₀ (λ i. 0) ss held second in
-    let here : h .event .stamp < one .event .event .stamp = operation-before-letting-go fresh ss p u y x h (one .event) (ordered-second es g h second) (one .among) d (one .letting) in
-    let there : f .event .stamp < two .event .event .stamp = operation-before-letting-go fresh ss q v x y f (two .event) (ordered-second es e f first) (two .among) b (two .letting) in
+    let here : h .event .stamp < one .event .event .stamp =
+    operation-before-letting-go fresh ss p u y x h (one .event) (ordered-second es g h second) (one .among) d (one .letting) in
+    let there : f .event .stamp < two .event .event .stamp =
+    operation-before-letting-go fresh ss q v x y f (two .event) (ordered-second es e f first) (two .among) b (two .letting) in
     let before : one .event .event .stamp < f .event .stamp = one .before in
     let after : two .event .event .stamp < h .event .stamp = two .before in
     omega arith

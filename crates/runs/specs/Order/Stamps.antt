@@ -201,16 +201,18 @@ module _ (p u k j : ℕ) (e f : PassageEvent) (operation : isOperation p u k e �
       let one = named p u k e _ operation in
       let other = named p u j f _ letting in
       let next = pledged-after-step t step ls pledged in
+      let events : List PassageEvent = withUses uses (eventsOf t step) in
       ⊎-elim
-      (λ both. absurd (not-in-one-step t uses step held (ordered-first (withUses uses (eventsOf t step)) e f both) (ordered-second (withUses uses (eventsOf t step)) e f both)))
+      (λ both. absurd (not-in-one-step t uses step held (ordered-first events e f both) (ordered-second events e f both)))
       (⊎-elim
       (λ b.
       let h = happens t uses step e held (b .0) in
       let slot : p < 16 = subst (λ (q : ℕ). q < 16) (one .slot) (h .place .slot) in
       let used : uses p ≡ u = ap uses (sym (one .slot)) ∙ sym (h .used) ∙ one .used in
       let on = use-goes-on t uses step ss f p (b .1) (other .slot) (other .used ∙ sym used) in
+      let does = h .means .operation (and-right (isOf p u k e) _ operation) in
       let early = subst (λ (q : ℕ). StillOpen (stepOf t step .tables) (objectSite (e .event .object)) q) (one .slot)
-      (nothing-after-quiesce-there t (e .event .slot) (e .event .object) step (held .sound) (h .means .operation (and-right (isOf p u k e) _ operation)) held) in
+      (nothing-after-quiesce-there t (e .event .slot) (e .event .object) step (held .sound) does held) in
       rw
       (stamp-of t uses step e h)
       (marked-later p u j _ (objectSite (e .event .object)) (stepOf t step .tables) (usesAfter t step uses) ss f slot (held-step t step held)
@@ -219,7 +221,7 @@ module _ (p u k j : ℕ) (e f : PassageEvent) (operation : isOperation p u k e �
       (b .1)
       letting))
       (λ b. operation-first (stepOf t step .tables) _ (usesAfter t step uses) ss (held-step t step held) next b))
-      (ordered-joined (withUses uses (eventsOf t step)) _ e f o)
+      (ordered-joined events _ e f o)
 
   -- a letting go in the list, and an operation of the passage after it
   letting-first :
@@ -232,8 +234,9 @@ module _ (p u k j : ℕ) (e f : PassageEvent) (operation : isOperation p u k e �
       let other = named p u j f _ letting in
       let frees = and-right (isOf p u j f) _ letting in
       let next = pledged-after-step t step ls pledged in
+      let events : List PassageEvent = withUses uses (eventsOf t step) in
       ⊎-elim
-      (λ both. absurd (not-in-one-step t uses step held (ordered-second (withUses uses (eventsOf t step)) f e both) (ordered-first (withUses uses (eventsOf t step)) f e both)))
+      (λ both. absurd (not-in-one-step t uses step held (ordered-second events f e both) (ordered-first events f e both)))
       (⊎-elim
       (λ b.
       let h = happens t uses step f held (b .0) in
@@ -250,7 +253,7 @@ module _ (p u k j : ℕ) (e f : PassageEvent) (operation : isOperation p u k e �
       (b .1)
       operation))
       (λ b. letting-first (stepOf t step .tables) _ (usesAfter t step uses) ss (held-step t step held) next b))
-      (ordered-joined (withUses uses (eventsOf t step)) _ f e o)
+      (ordered-joined events _ f e o)
 
 -- ---- the theorem
 

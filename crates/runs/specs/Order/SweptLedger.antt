@@ -48,7 +48,8 @@ module _ (r s p : ℕ) (slot : p < 16) where
       (sym own)
       (λ h y.
       put-same ls (at .slot) (nextLedger (ls (at .slot)) (at .site) (seenAt t step) left)
-      ∙ when-false (λ (l : Ledger). l ≡ ls (at .slot)) (isFree (left .passage .status)) noLedger _ (seen-used s h y) (noted-same (viewOf t (at .slot)) (ls (at .slot)) (at .site) (messageAt t (at .message) .source) h))
+      ∙ when-false (λ (l : Ledger). l ≡ ls (at .slot)) (isFree (left .passage .status)) noLedger _ (seen-used s h y)
+      (noted-same (viewOf t (at .slot)) (ls (at .slot)) (at .site) (messageAt t (at .message) .source) h))
       hold
       seen)
       (λ n. put-other ls (at .slot) _ p n)

@@ -1,6 +1,8 @@
--- A commit is whole: from the step on by which a passage becomes committed, every object that it held right before that step is held by it with the value that it had,
+-- A commit is whole: from the step on by which a passage becomes committed,
+-- every object that it held right before that step is held by it with the value that it had,
 -- or it has let it go, and right after the letting go that value was the width that stands.
--- The idea: a passage whose commit round is closed has no call in flight and no visit that a sweep may take, so only home's word can touch what it holds, and that keeps the value. Assumes nothing.
+-- The idea: a passage whose commit round is closed has no call in flight and no visit that a sweep may take,
+-- so only home's word can touch what it holds, and that keeps the value. Assumes nothing.
 use Prim.Native.Nat.{ℕ, _%_, _<_}
 use mathlib.Core.Path.{_≡_, refl, sym, ap, _∙_, subst}
 use mathlib.Core.Logic.{_≢_, ⊎-elim, _⊎_, inl, inr}
@@ -71,7 +73,11 @@ whole-after-step t ls step p k slot pledged settled held =
           (λ e. e)
           (λ e.
           let called = called-by t p k step e in
-          absurd (settled .silent (flatOf step .c % 32) (called .call) (own-body p (mailNamed t step) (Body.Call (called .call)) (called .body) refl (called .own))))
+          absurd
+          (settled .silent
+          (flatOf step .c % 32)
+          (called .call)
+          (own-body p (mailNamed t step) (Body.Call (called .call)) (called .body) refl (called .own))))
           (value-while-held t step p k slot (pledged .kept .sound) held still),
     ))
     (λ gone.
@@ -104,7 +110,8 @@ HeldOrLetStand t₀ before steps p k width =
 
 -- one more step at the front
 let-stand-later :
-    (t₀ : Tables) (before : List Step) (s : Step) (steps : List Step) (p k width : ℕ) → LetStand t₀ (before ++ s ∷ []) steps p k width → LetStand t₀ before (s ∷ steps) p k width
+    (t₀ : Tables) (before : List Step) (s : Step) (steps : List Step) (p k width : ℕ) → LetStand t₀ (before ++ s ∷ []) steps p k width
+    → LetStand t₀ before (s ∷ steps) p k width
 let-stand-later t₀ before s steps p k width g =
     let same : (before ++ s ∷ []) ++ g .first ≡ before ++ s ∷ g .first = append-assoc before (s ∷ []) (g .first) in
     record {
@@ -125,9 +132,11 @@ module _ {t₀ : Tables} (fresh : Started t₀) (p k width : ℕ) (slot : p < 16
       ⊎ ((steps : List Step) → LetStand t₀ before (step ∷ steps) p k width)
   unfolding runOf
   one-more before step settled held value =
+      let t : Tables = runOf t₀ before in
+      let next : Tables = stepOf t step .tables in
       ⊎-elim
       (λ y. inl (rw (run-on t₀ before (step ∷ [])) (y .0, y .1 ∙ value)))
-      (λ (y : (isHolding (stepOf (runOf t₀ before) step .tables) p k ≡ false) × (objectAt (stepOf (runOf t₀ before) step .tables) k ≡ unheld (objectAt (runOf t₀ before) k .value))).
+      (λ (y : (isHolding next p k ≡ false) × (objectAt next k ≡ unheld (objectAt t k .value))).
       inr
       (λ steps.
       let same : before ++ [] ≡ before = append-nil before in
@@ -142,10 +151,10 @@ module _ {t₀ : Tables} (fresh : Started t₀) (p k width : ℕ) (slot : p < 16
             rw same
             (rest-after-step fresh before step k
             ∙ ap standing (y .1)
-            ∙ standing-unheld (unheld (objectAt (runOf t₀ before) k .value)) (let-go-unheld (objectAt (runOf t₀ before) k .value))
+            ∙ standing-unheld (unheld (objectAt t k .value)) (let-go-unheld (objectAt t k .value))
             ∙ value);
       }))
-      (whole-after-step (runOf t₀ before) (ledgersOf t₀ before) step p k slot (pledged-run fresh before) settled held)
+      (whole-after-step t (ledgersOf t₀ before) step p k slot (pledged-run fresh before) settled held)
 
   longer :
       (before : List Step) (s : Step) (steps : List Step) → HeldOrLetStand t₀ (before ++ s ∷ []) steps p k width
@@ -164,13 +173,16 @@ module _ {t₀ : Tables} (fresh : Started t₀) (p k width : ℕ) (slot : p < 16
       (λ y.
       let still : passageAt (runOf t₀ (before ++ s ∷ [])) p .status ≡ Status.Committed =
       ap (λ (t : Tables). passageAt t p .status) (run-on t₀ before (s ∷ []))
-      ∙ over-after-step (runOf t₀ before) (ledgersOf t₀ before) s p (pledged-run fresh before) slot (ap isOver committed) (holder-not-retired fresh before s p k slot below held)
+      ∙ over-after-step (runOf t₀ before) (ledgersOf t₀ before) s p (pledged-run fresh before) slot
+      (ap isOver committed)
+      (holder-not-retired fresh before s p k slot below held)
       ∙ committed in
       longer before s steps (committed-whole (before ++ s ∷ []) steps still (y .0) (y .1)))
       (λ y. inr (y steps))
       (one-more before s (settled-after-commit (runOf t₀ before) (ledgersOf t₀ before) p slot (pledged-run fresh before) committed) held value)
 
--- by the step commit the passage becomes committed; whatever steps come after it, each object that it held right before is held with its value, or was let go and its value stood
+-- by the step commit the passage becomes committed;
+-- whatever steps come after it, each object that it held right before is held with its value, or was let go and its value stood
 pub commit-is-whole :
     {t₀ : Tables} → Started t₀ → (before : List Step) (commit : Step) (after : List Step) (p k : ℕ) → p < 16 → k < 32
     → passageAt (runOf t₀ before) p .status ≢ Status.Committed

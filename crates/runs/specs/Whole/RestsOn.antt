@@ -1,7 +1,8 @@
 -- What a commit rests on: when a passage becomes committed, it has at every station where it operated its visit there, and prepared,
 -- holds every object that it operated, and the width that stands of each is what it was just before the operation.
 -- So a check that commits has read, at every station, what stands at one and the same moment.
--- The idea: from the operation on the passage holds the object and its width stands, or it has let it go; and who has let something go is committed already, or has a station that will not answer. Assumes nothing.
+-- The idea: from the operation on the passage holds the object and its width stands, or it has let it go;
+-- and who has let something go is committed already, or has a station that will not answer. Assumes nothing.
 use Prim.Native.Nat.{ℕ, _<_}
 use mathlib.Core.Path.{_≡_, refl, sym, ap, _∙_, subst}
 use mathlib.Core.Logic.{_≢_, ⊎-elim, _⊎_, inl, inr}
@@ -106,7 +107,8 @@ pub record RestsOn (t₀ : Tables) (before ss : List Step) (p k : ℕ) : Type 0 
   pub stands : restOf t₀ ss k ≡ restOf t₀ before k
 
 -- p operated k at step s of a run from the start, and no accepted step since retired its slot; now p becomes committed by a step.
--- Then in the tables before that step its visit at k's station is there and prepared, it holds k, and the width that stands of k is what it was just before the operation
+-- Then in the tables before that step its visit at k's station is there and prepared, it holds k,
+-- and the width that stands of k is what it was just before the operation
 pub commit-rests-on-what-stands :
     {t₀ : Tables} → Started t₀ → (before : List Step) (s : Step) (between : List Step) (commit : Step) (p k : ℕ) → p < 16
     → operates (runOf t₀ before) p k s ≡ true → isRetired p (historyOf (runOf t₀ before) (s ∷ between)) ≡ false
@@ -173,5 +175,5 @@ read-is-what-stands {t₀} fresh before s between commit p k slot e fresh-hold r
     (λ y. y)
     (λ y. absurd (false≢true (sym fresh-hold ∙ y)))
     (operated-was-free-or-own (runOf t₀ before) p k s z e) in
-    operated-reads (runOf t₀ before) p k s z e
-    ∙ ap Answer.Accepted (value-is-rest fresh before k free ∙ sym (commit-rests-on-what-stands fresh before s between commit p k slot e r not-yet committed .stands))
+    let rests = commit-rests-on-what-stands fresh before s between commit p k slot e r not-yet committed in
+    operated-reads (runOf t₀ before) p k s z e ∙ ap Answer.Accepted (value-is-rest fresh before k free ∙ sym (rests .stands))

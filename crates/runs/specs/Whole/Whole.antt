@@ -1,5 +1,5 @@
--- The pair stands or falls together: only the holder's own commit changes a width that stands, a commit lets all that its passage held stand, and an abort lets none of it.
--- Assumes nothing.
+-- The pair stands or falls together: only the holder's own commit changes a width that stands,
+-- a commit lets all that its passage held stand, and an abort lets none of it. Assumes nothing.
 use Prim.Native.Nat.{ℕ, _<_}
 use mathlib.Core.Path.{_≡_, refl, sym, ap, _∙_, subst}
 use mathlib.Core.Logic.{_≢_, ⊎-elim, _⊎_}
@@ -116,7 +116,10 @@ abort-is-whole {t₀} fresh before after step p k slot below aborted kept held =
     let same : by .holder ≡ p = one-holder (by .holder) p (objectAt (runOf t₀ ss) k) (by .held) held in
     let now : passageAt (runOf t₀ ss) p .status ≡ Status.Aborted = over-is-final fresh before after p slot (ap isOver aborted) kept ∙ aborted in
     let still : passageAt (stepOf (runOf t₀ ss) step .tables) p .status ≡ Status.Aborted =
-    over-after-step (runOf t₀ ss) (ledgersOf t₀ ss) step p (pledged-run fresh ss) slot (ap isOver now) (holder-not-retired fresh ss step p k slot below held) ∙ now in
+    over-after-step (runOf t₀ ss) (ledgersOf t₀ ss) step p (pledged-run fresh ss) slot
+    (ap isOver now)
+    (holder-not-retired fresh ss step p k slot below held)
+    ∙ now in
     absurd (true≢false (ap isAborted (sym still ∙ ap (λ (q : ℕ). passageAt (stepOf (runOf t₀ ss) step .tables) q .status) (sym same) ∙ by .committed))))
     (either (eqb (restOf t₀ (ss ++ step ∷ []) k) (restOf t₀ ss k)))
   where
