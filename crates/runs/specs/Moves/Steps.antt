@@ -16,13 +16,13 @@ use Rattle.rules.specs.Ranges.{inRange}
 use Rattle.rules.specs.Answers.{isAccepted, settleOf}
 use Rattle.rules.specs.AnswersLaws.{Fine, accepted-fine, settle-accepted}
 use Rattle.rules.specs.Checks.{badHandle, badTimes}
-use Rattle.rules.specs.Parts.{isFree, isActive, isRunning, isAborted, isPhaseOne, isPhaseTwo, isEmpty, largestQuiesce, toldOf, askedVisit, asksLife, tellsLife, plainMessage, answerMessage}
+use Rattle.rules.specs.Parts.{isFree, isActive, isRunning, isAborted, isPhaseOne, isEmpty, largestQuiesce, toldOf, askedVisit, asksLife, tellsLife, plainMessage, answerMessage}
 use Rattle.rules.specs.Stations.{tickOf, tickDone, sweepOf, sweepDone, isSwept, sweptSlot, crashOf, crashDone, losesHome, crashedSlot, recoverOf, recoverDone}
 use Rattle.rules.specs.Passages.{beginOf, beginDone, abortOf, abortDone, retireOf, retireDone}
 use Rattle.rules.specs.Rounds.{openChecks, openOf, openDone, refreshOf, terminateOf, prepareOf, askOf, askDone, closeOf, closeDone, tellChecks, tellOf, tellDone, tellBody}
 use Rattle.rules.specs.Calls.{mailClock, calledVisit, callChecks, callDone, roundChecks, atHome, phaseOneDone, phaseTwoDone, answerChecks, answerDone, invokeOf, invokeDone, emptyOf, deliverCallOf, deliverPhaseOneOf, deliverPhaseTwoOf, deliverAnswerOf, deliverBodyOf, dropOf, dropDone}
 use Rattle.rules.specs.Machine.{looksHome, placesOf, seenOf, decideOf, foundOf, slotPlaces, tripPlaces, turnSeen, isMessageOf}
-use Rattle.runs.specs.Types.{Kind, Phase, Status, Visit, Call, Asked, Told, Body, Message, Tables, Step, Places, Seen, Decision}
+use Rattle.runs.specs.Types.{Kind, Status, Visit, Call, Asked, Told, Body, Message, Tables, Step, Places, Seen, Decision}
 use Rattle.runs.specs.Walk.Says.{isPrepare, tellsPrepare, carriesCommit}
 use Rattle.runs.specs.Walk.Steps.{placesAt, seenAt}
 use Rattle.runs.specs.Times.View.{Ledger, mailOf, viewOf}
