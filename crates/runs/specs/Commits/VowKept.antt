@@ -19,7 +19,7 @@ use Rattle.runs.specs.Times.Clauses.{Holds}
 use Rattle.runs.specs.Times.Store.{leftView}
 use Rattle.runs.specs.Kept.Closing.{closing-binding}
 use Rattle.runs.specs.Kept.Times.{asked-says}
-use Rattle.runs.specs.Moves.Definitions.{isAnswer, Plain, OpenedFrom, Move, Turn}
+use Rattle.runs.specs.Moves.Definitions.{isAnswer, PlainMail, OpenedFrom, Move, Turn}
 use Rattle.runs.specs.Moves.Laws.{sites-after, where-is, where-not}
 use Rattle.runs.specs.Commits.Vow.{RoundFor, RoundFits, Vow}
 use Rattle.runs.specs.Commits.VowLaws.{one-not-two, none-not-one, none-not-two, prepare-says, committed-tells, running-not-committed, aborted-not-committed, active-runs, telling-commits}
@@ -148,7 +148,7 @@ module _ (w : View) (l : Ledger) (a k c source : ℕ) (v : Visit) (m : Message) 
   sent-same : (p : Passage) → SamePassage (w .passage) p → m ≡ w .mail k → Sent p
   sent-same p same e = record { word = rw e (λ y. same .status ∙ o .word k y); answers = rw e (λ y. o .answers k y ∙ sym (same .home)) }
 
-  sent-plain : (p : Passage) → Plain m → Sent p
+  sent-plain : (p : Passage) → PlainMail m → Sent p
   sent-plain p x = record { word = λ e. absurd (true≢false (sym e ∙ x .commit)); answers = λ e. absurd (true≢false (sym e ∙ x .answer)) }
 
   sent-empty : (p : Passage) → m ≡ noMessage → Sent p

@@ -32,7 +32,7 @@ abbrev pub isAnswer : Body → Bool
 isAnswer b = eqb (bodyKind b) 4
 
 -- a message that is no answer and carries no commit's word
-pub record Plain (m : Message) : Type 0 where
+pub record PlainMail (m : Message) : Type 0 where
   pub commit : carriesCommit (m .body) ≡ false
   pub answer : isAnswer (m .body) ≡ false
 
@@ -49,7 +49,7 @@ OpenedFrom Kind.Prepare s = isRunning s ≡ true
 pub data Move (step : Step) (w : View) (a k : ℕ) (p : Passage) (v : Visit) (c : ℕ) (m : Message) : Type 0 where
   -- the clock moves, a count grows, a message that is no word goes out or is lost
   Rests :
-      p ≡ w .passage → Alike (w .visit a) v → w .clock a ≤ c → (m ≡ w .mail k) ⊎ Plain m
+      p ≡ w .passage → Alike (w .visit a) v → w .clock a ≤ c → (m ≡ w .mail k) ⊎ PlainMail m
       → Move step w a k p v c m
   -- home tells a site what its round has closed with
   Tells :

@@ -31,7 +31,7 @@ use Rattle.runs.specs.Fits.Life.{free-says}
 use Rattle.runs.specs.Fits.Close.{one-says}
 use Rattle.runs.specs.Fits.Mail.{two-says}
 use Rattle.runs.specs.Fits.Deliver.{deliverAt, letter-seen, letter-body, letter-here, letter-away, deliver-own, deliver-here, deliver-in}
-use Rattle.runs.specs.Moves.Definitions.{Alike, isAnswer, Plain, OpenedFrom, Move, Turn}
+use Rattle.runs.specs.Moves.Definitions.{Alike, isAnswer, PlainMail, OpenedFrom, Move, Turn}
 
 -- what a store at these places does to its own slot
 abbrev pub MoveAt : Step → Tables → Places → Seen → Type 0
@@ -77,7 +77,7 @@ aborted-says Status.Committed e = absurd (false≢true e)
 alike-same : (v : Visit) → Alike v v
 alike-same v = record { there = refl; prepared = refl; round = refl; quiesce = refl; release = refl }
 
-empty-plain : Plain noMessage
+empty-plain : PlainMail noMessage
 empty-plain = record { commit = refl; answer = refl }
 
 -- a slot sees a message as it is, or sees none
@@ -85,8 +85,8 @@ mail-has : (P : Message → Type 0) (p : ℕ) (m : Message) → P m → P noMess
 mail-has P p m x y = cond-keeps P (isMessageOf p m) m noMessage x y
 
 -- what is plain is plain as its slot sees it
-seen-plain : (p : ℕ) (m : Message) → Plain m → Plain (mailOf p m)
-seen-plain p m x = mail-has Plain p m x empty-plain
+seen-plain : (p : ℕ) (m : Message) → PlainMail m → PlainMail (mailOf p m)
+seen-plain p m x = mail-has PlainMail p m x empty-plain
 
 -- ---- steps that are no delivery
 
@@ -113,7 +113,7 @@ module _ (t : Tables) (l : Ledger) where
       → done (seenAt t step) .left .passage ≡ seenAt t step .passage
       → Alike (seenAt t step .visit) (done (seenAt t step) .left .visit)
       → seenAt t step .site .clock ≤ done (seenAt t step) .left .site .clock
-      → Plain (done (seenAt t step) .left .message)
+      → PlainMail (done (seenAt t step) .left .message)
       → MoveAt step t (placesAt t step) (settleOf (done (seenAt t step)) (seenAt t step) .left)
   plain-move step done e p v i m =
       step-settled t step done e

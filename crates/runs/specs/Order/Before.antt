@@ -146,13 +146,13 @@ marked-before-letting-go x s p k t step slot c held free =
 -- ---- a letting go, and a later operation
 
 -- what is carried from a letting go on: the passage is committed, or a visit of it has gone that had this release time at most
-abbrev pub LetGo : ℕ → ℕ → ℕ → Tables → Type 0
-LetGo x s p t = Carried (λ w l. w .passage .status ≡ Status.Committed) p t ⊎ Carried (Gone x s) p t
+abbrev pub SinceLetGo : ℕ → ℕ → ℕ → Tables → Type 0
+SinceLetGo x s p t = Carried (λ w l. w .passage .status ≡ Status.Committed) p t ⊎ Carried (Gone x s) p t
 
 pub let-go-at-once :
     (p k : ℕ) (t : Tables) (ls : ℕ → Ledger) (step : Step) → p < 16 → Pledged t ls
     → isHolding t p k ≡ true → isHolding (stepOf t step .tables) p k ≡ false
-    → LetGo (siteAt (stepOf t step .tables) (objectSite k) .clock) (objectSite k) p (stepOf t step .tables)
+    → SinceLetGo (siteAt (stepOf t step .tables) (objectSite k) .clock) (objectSite k) p (stepOf t step .tables)
 let-go-at-once p k t ls step slot pledged held free =
     ⊎-elim
     (λ w.
@@ -186,18 +186,18 @@ let-go-at-once p k t ls step slot pledged held free =
         }
 
 -- the call that an operation delivers
-pub record Called (t : Tables) (p k : ℕ) (step : Step) : Type 0 where
+pub record CallOf (t : Tables) (p k : ℕ) (step : Step) : Type 0 where
   pub call : Call
   pub body : mailNamed t step .body ≡ Body.Call call
   pub own : slotOf (mailNamed t step .handle) ≡ p
 
-pub called-by : (t : Tables) (p k : ℕ) (step : Step) → operates t p k step ≡ true → Called t p k step
+pub called-by : (t : Tables) (p k : ℕ) (step : Step) → operates t p k step ≡ true → CallOf t p k step
 called-by t p k step e = go (mailNamed t step .body) refl (and-right (eqb (slotOf (mailNamed t step .handle)) p) _ named)
   where
     named : (eqb (slotOf (mailNamed t step .handle)) p && callsFor k (mailNamed t step .body)) ≡ true
     named = and-right (isStep 11 step) _ (and-right (isAccepted (stepOf t step .answer)) _ e)
 
-    go : (b : Body) → mailNamed t step .body ≡ b → callsFor k b ≡ true → Called t p k step
+    go : (b : Body) → mailNamed t step .body ≡ b → callsFor k b ≡ true → CallOf t p k step
     go Body.Empty y f = absurd (false≢true f)
     go (Body.Call c) y f = record { call = c; body = y; own = eqb-true _ _ (and-left _ (callsFor k (mailNamed t step .body)) named) }
     go (Body.PhaseOne n a) y f = absurd (false≢true f)
@@ -205,7 +205,7 @@ called-by t p k step e = go (mailNamed t step .body) refl (and-right (eqb (slotO
     go (Body.Answer n r q) y f = absurd (false≢true f)
 
 pub operation-before-let-go :
-    (x s p k : ℕ) (t : Tables) (step : Step) → p < 16 → Held t → LetGo x s p t → operates t p k step ≡ true
+    (x s p k : ℕ) (t : Tables) (step : Step) → p < 16 → Held t → SinceLetGo x s p t → operates t p k step ≡ true
     → siteAt (stepOf t step .tables) (objectSite k) .clock < x
 operation-before-let-go x s p k t step slot held (inl c) e =
     let called = called-by t p k step e in

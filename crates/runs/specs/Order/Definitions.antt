@@ -18,14 +18,14 @@ InOrder e f [] = ⊥
 InOrder e f (x ∷ xs) = ((x ≡ e) × Among f xs) ⊎ InOrder e f xs
 
 -- a read or a write, accepted
-abbrev pub operated : EventKind → Bool
-operated EventKind.Took = false
-operated (EventKind.Operated write answered written) = true
-operated EventKind.Freed = false
+abbrev pub isOperated : EventKind → Bool
+isOperated EventKind.Took = false
+isOperated (EventKind.Operated write answered written) = true
+isOperated EventKind.Freed = false
 
 -- use u of slot p operated object k
 abbrev pub isOperation : ℕ → ℕ → ℕ → PassageEvent → Bool
-isOperation p u k e = isOf p u k e && operated (e .event .kind)
+isOperation p u k e = isOf p u k e && isOperated (e .event .kind)
 
 -- use u of slot p let object k go, whoever's step it was
 abbrev pub isLettingGo : ℕ → ℕ → ℕ → PassageEvent → Bool

@@ -20,7 +20,7 @@ use Rattle.runs.specs.Events.HoldStores.{leftBy}
 use Rattle.runs.specs.Events.EventsLaws.{refused-no-event, acting-events, idle-no-event}
 use Rattle.runs.specs.Events.EventsInPlace.{all-joined, all-up-to}
 use Rattle.runs.specs.Operations.Definitions.{operates}
-use Rattle.runs.specs.Order.Definitions.{Among, InOrder, operated}
+use Rattle.runs.specs.Order.Definitions.{Among, InOrder, isOperated}
 
 -- ---- lists
 
@@ -76,7 +76,7 @@ ordered-second (x ∷ xs) e f (inr o) = inr (ordered-second xs e f o)
 
 pub record Means (t : Tables) (step : Step) (e : Event) : Type 0 where
   pub accepted : isAccepted (stepOf t step .answer) ≡ true
-  pub operation : operated (e .kind) ≡ true → operates t (e .slot) (e .object) step ≡ true
+  pub operation : isOperated (e .kind) ≡ true → operates t (e .slot) (e .object) step ≡ true
   pub held : frees (e .kind) ≡ true → isHolding t (e .slot) (e .object) ≡ true
   pub freed : frees (e .kind) ≡ true → isHolding (stepOf t step .tables) (e .slot) (e .object) ≡ false
 

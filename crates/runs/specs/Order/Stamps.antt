@@ -31,11 +31,11 @@ use Rattle.runs.specs.Operations.Operated.{operated-was-free-or-own, ope
 use Rattle.runs.specs.Commits.Pledged.{Pledged, pledged-after-step, pledged-started}
 use Rattle.runs.specs.Commits.Since.{Carried, step-carried}
 use Rattle.runs.specs.Commits.Over.{StatusIs, NoWay, over-carries}
-use Rattle.runs.specs.Order.Definitions.{Among, InOrder, operated, isOperation, isLettingGo}
+use Rattle.runs.specs.Order.Definitions.{Among, InOrder, isOperated, isOperation, isLettingGo}
 use Rattle.runs.specs.Order.Gone.{gone-carries}
 use Rattle.runs.specs.Order.Marked.{Marked, marked-carries}
 use Rattle.runs.specs.Order.Listed.{all-among, among-joined, among-ordered, ordered-joined, ordered-first, ordered-second, Means, events-mean, with-uses-means}
-use Rattle.runs.specs.Order.Before.{marked-at-once, marked-before-letting-go, LetGo, let-go-at-once, operation-before-let-go}
+use Rattle.runs.specs.Order.Before.{marked-at-once, marked-before-letting-go, SinceLetGo, let-go-at-once, operation-before-let-go}
 
 -- ---- what an event of a step with its use says
 
@@ -62,12 +62,12 @@ pub stamp-of :
 stamp-of t uses step e h = h .place .stamp ∙ ap (λ (s : ℕ). siteAt (stepOf t step .tables) s .clock) (h .place .site)
 
 -- an event of use u of slot p with object k
-pub record Named (p u k : ℕ) (e : PassageEvent) : Type 0 where
+pub record IsEventOf (p u k : ℕ) (e : PassageEvent) : Type 0 where
   pub slot : e .event .slot ≡ p
   pub used : e .used ≡ u
   pub object : e .event .object ≡ k
 
-pub named : (p u k : ℕ) (e : PassageEvent) (b : Bool) → (isOf p u k e && b) ≡ true → Named p u k e
+pub named : (p u k : ℕ) (e : PassageEvent) (b : Bool) → (isOf p u k e && b) ≡ true → IsEventOf p u k e
 named p u k e b y =
     let of : isOf p u k e ≡ true = and-left _ _ y in
     let both : (eqb (e .event .slot) p && eqb (e .used) u) ≡ true = and-left _ _ of in
@@ -152,7 +152,7 @@ module _ (p u k : ℕ) where
 
   -- after a letting go with stamp x at site s every operation in the same use has a smaller one
   let-go-later :
-      (x s : ℕ) (t : Tables) (uses : ℕ → ℕ) (ss : List Step) (e : PassageEvent) → p < 16 → Held t → LetGo x s p t → uses p ≡ u
+      (x s : ℕ) (t : Tables) (uses : ℕ → ℕ) (ss : List Step) (e : PassageEvent) → p < 16 → Held t → SinceLetGo x s p t → uses p ≡ u
       → Among e (eventsFrom t uses ss) → isOperation p u k e ≡ true → e .event .stamp < x
   unfolding eventsFrom
   let-go-later x s t uses [] e slot held c used a y = absurd a
@@ -261,7 +261,7 @@ module _ (p u k j : ℕ) (e f : PassageEvent) (operation : isOperation p u k e �
 operation-or-letting : (p u k j : ℕ) (e : PassageEvent) → isOperation p u k e ≡ true → isLettingGo p u j e ≡ true → ⊥
 operation-or-letting p u k j e y z = go (e .event .kind) (and-right (isOf p u k e) _ y) (and-right (isOf p u j e) _ z)
   where
-    go : (kind : EventKind) → operated kind ≡ true → frees kind ≡ true → ⊥
+    go : (kind : EventKind) → isOperated kind ≡ true → frees kind ≡ true → ⊥
     go EventKind.Took o f = false≢true o
     go (EventKind.Operated write answered written) o f = false≢true f
     go EventKind.Freed o f = false≢true o

@@ -39,11 +39,11 @@ use Rattle.runs.specs.Whole.Whole.{holder-not-retired}
 -- ---- what cannot touch a passage whose commit round is closed
 
 -- it has no call in flight, and every visit of it is prepared
-record Settled (t : Tables) (p : ℕ) : Type 0 where
+record Untouched (t : Tables) (p : ℕ) : Type 0 where
   silent : (k : ℕ) (c : Call) → viewOf t p .mail k .body ≡ Body.Call c → ⊥
   prepared : (s : ℕ) → visitAt t s p .there ≡ true → visitAt t s p .prepared ≡ true
 
-settled-at-commit : (t : Tables) (ls : ℕ → Ledger) (p : ℕ) → p < 16 → Pledged t ls → ClosesCommit (passageAt t p) → Settled t p
+settled-at-commit : (t : Tables) (ls : ℕ → Ledger) (p : ℕ) → p < 16 → Pledged t ls → ClosesCommit (passageAt t p) → Untouched t p
 settled-at-commit t ls p slot k closes =
     let hold = k .kept .slots p slot in
     record {
@@ -51,7 +51,7 @@ settled-at-commit t ls p slot k closes =
       prepared = λ s there. bound-at-commit t ls p s slot k closes (hold .mirror s there .0) .1;
     }
 
-settled-after-commit : (t : Tables) (ls : ℕ → Ledger) (p : ℕ) → p < 16 → Pledged t ls → passageAt t p .status ≡ Status.Committed → Settled t p
+settled-after-commit : (t : Tables) (ls : ℕ → Ledger) (p : ℕ) → p < 16 → Pledged t ls → passageAt t p .status ≡ Status.Committed → Untouched t p
 settled-after-commit t ls p slot k committed =
     let tells = committed-tells (passageAt t p) (k .vows p slot .round) committed in
     record {
@@ -61,7 +61,7 @@ settled-after-commit t ls p slot k committed =
 
 -- so a step leaves what it holds with its value, held or let go
 whole-after-step :
-    (t : Tables) (ls : ℕ → Ledger) (step : Step) (p k : ℕ) → p < 16 → Pledged t ls → Settled t p → isHolding t p k ≡ true
+    (t : Tables) (ls : ℕ → Ledger) (step : Step) (p k : ℕ) → p < 16 → Pledged t ls → Untouched t p → isHolding t p k ≡ true
     → ((isHolding (stepOf t step .tables) p k ≡ true) × (objectAt (stepOf t step .tables) k .value ≡ objectAt t k .value))
     ⊎ ((isHolding (stepOf t step .tables) p k ≡ false) × (objectAt (stepOf t step .tables) k ≡ unheld (objectAt t k .value)))
 whole-after-step t ls step p k slot pledged settled held =
@@ -127,7 +127,7 @@ let-stand-later t₀ before s steps p k width g =
 module _ {t₀ : Tables} (fresh : Started t₀) (p k width : ℕ) (slot : p < 16) (below : k < 32) where
   -- a step at which the passage is settled
   one-more :
-      (before : List Step) (step : Step) → Settled (runOf t₀ before) p → isHolding (runOf t₀ before) p k ≡ true → objectAt (runOf t₀ before) k .value ≡ width
+      (before : List Step) (step : Step) → Untouched (runOf t₀ before) p → isHolding (runOf t₀ before) p k ≡ true → objectAt (runOf t₀ before) k .value ≡ width
       → ((isHolding (runOf t₀ (before ++ step ∷ [])) p k ≡ true) × (objectAt (runOf t₀ (before ++ step ∷ [])) k .value ≡ width))
       ⊎ ((steps : List Step) → LetStand t₀ before (step ∷ steps) p k width)
   unfolding runOf

@@ -36,7 +36,7 @@ use Rattle.runs.specs.Commits.Pledged.{Pledged, pledged-after-step, pled
 use Rattle.runs.specs.Commits.Since.{not-retired, step-carried}
 use Rattle.runs.specs.Commits.Over.{StatusIs, NoWay, over-carries, ClosesCommit, committed-by-closing}
 use Rattle.runs.specs.Order.Gone.{Gone, gone-carries}
-use Rattle.runs.specs.Order.Before.{LetGo, let-go-at-once}
+use Rattle.runs.specs.Order.Before.{SinceLetGo, let-go-at-once}
 
 -- ---- from the operation on
 
@@ -46,9 +46,9 @@ pub record HoldsStill (p k width : ℕ) (t : Tables) : Type 0 where
   pub stands : standing (objectAt t k) ≡ width
 
 -- or it has let go of it, at some stamp
-pub record LetItGo (p k : ℕ) (t : Tables) : Type 0 where
+pub record HasLetGo (p k : ℕ) (t : Tables) : Type 0 where
   pub stamp : ℕ
-  pub since : LetGo stamp (objectSite k) p t
+  pub since : SinceLetGo stamp (objectSite k) p t
 
 -- while an object is held by the same passage its width stands
 still-stands :
@@ -61,14 +61,14 @@ still-stands t step p k held holds =
     (standing-after-step t step (held .sound) k)
 
 pub let-go-carried :
-    (x s p : ℕ) (t : Tables) (step : Step) → p < 16 → LetGo x s p t → (isAccepted (stepOf t step .answer) && retires p step) ≡ false
-    → LetGo x s p (stepOf t step .tables)
+    (x s p : ℕ) (t : Tables) (step : Step) → p < 16 → SinceLetGo x s p t → (isAccepted (stepOf t step .answer) && retires p step) ≡ false
+    → SinceLetGo x s p (stepOf t step .tables)
 let-go-carried x s p t step slot (inl c) r = inl (step-carried (StatusIs Status.Committed) NoWay (over-carries Status.Committed refl) p slot t step c r)
 let-go-carried x s p t step slot (inr c) r = inr (step-carried (Gone x s) NoWay (gone-carries x s) p slot t step c r)
 
 module _ (p k width : ℕ) (slot : p < 16) where
   abbrev pub StillOrGone : Tables → Type 0
-  StillOrGone t = HoldsStill p k width t ⊎ LetItGo p k t
+  StillOrGone t = HoldsStill p k width t ⊎ HasLetGo p k t
 
   one-step :
       (t : Tables) (ls : ℕ → Ledger) (step : Step) → Held t → Pledged t ls → StillOrGone t → (isAccepted (stepOf t step .answer) && retires p step) ≡ false
@@ -126,7 +126,7 @@ commit-rests-on-what-stands {t₀} fresh before s between commit p k slot e r no
       holds = h .holds;
       stands = rest-is-standing fresh ss k ∙ h .stands ∙ sym (rest-is-standing fresh before k);
     })
-    (λ (g : LetItGo p k now).
+    (λ (g : HasLetGo p k now).
     ⊎-elim
     (λ c. absurd (not-yet (c .has)))
     (λ c. absurd (false≢true (sym (c .has .gone) ∙ bound-at-commit now (c .ledgers) p (objectSite k) slot (c .pledged) closes (c .has .seen) .0)))
