@@ -5,8 +5,11 @@ use mathlib.Core.Path.{_≡_, refl, sym, ap, _∙_, subst}
 use mathlib.Core.Logic.{_≢_, ⊎-elim, _⊎_}
 use mathlib.Core.Bool.{true, false, _&&_, true≢false, false≢true}
 use mathlib.Core.List.{List, _++_}
+use lib.Dec.{ltb}
+use borrow.Author.Tests.{ltb-true, ltb-false}
 use Rattle.rules.specs.declared.looking.Trip.{Trip}
-use Rattle.rules.specs.Tables.{passageAt}
+use Rattle.rules.specs.LoopsLaws.{either}
+use Rattle.rules.specs.Tables.{pastPassage, passageAt}
 use Rattle.rules.specs.Answers.{isAccepted}
 use Rattle.rules.specs.Parts.{isFree, isRunning, isOver, isClosed, largestQuiesce, askedOf, askedStatus, toldOf, toldStatus}
 use Rattle.rules.specs.Rounds.{roundTold}
@@ -17,7 +20,8 @@ use Rattle.rules.specs.Runs.{Started, runOf, historyOf}
 use Rattle.runs.specs.Types.{Kind, Phase, Status, Passage, Visit, Asked, Message, Tables, Step, Outcome, Seen}
 use Rattle.runs.specs.Walk.Says.{isPrepare}
 use Rattle.runs.specs.Walk.Steps.{placesAt, seenAt, run-on}
-use Rattle.runs.specs.Walk.Sound.{Sound, sound-step-has}
+use Rattle.runs.specs.Walk.Plain.{past-reads}
+use Rattle.runs.specs.Walk.Sound.{Sound, sound-run, sound-step-has}
 use Rattle.runs.specs.Times.View.{View, Ledger}
 use Rattle.runs.specs.Times.Ledgers.{ledgersOf}
 use Rattle.runs.specs.Orphans.Orphans.{retires, isRetired}
@@ -122,12 +126,21 @@ module _ (s : Status) (over : isOver s ≡ true) where
         goes-on = λ trip w u later way. tt;
       }
 
+-- a passage that is over stands in one of sixteen slots
+over-below : (t : Tables) (p : ℕ) → Sound t → isOver (passageAt t p .status) ≡ true → p < 16
+over-below t p z over =
+    ⊎-elim
+    (λ b. ltb-true p 16 b)
+    (λ b. absurd (false≢true (ap (λ (x : Passage). isOver (x .status)) (sym (past-reads (t .passages) p pastPassage (rw (z .sized .passages) (ltb-false p 16 b)))) ∙ over)))
+    (either (ltb p 16))
+
 -- in every run: a passage that is committed or aborted is so after any further steps, until an accepted retire of its slot
 pub over-is-final :
-    {t₀ : Tables} → Started t₀ → (before after : List Step) (p : ℕ) → p < 16 → isOver (passageAt (runOf t₀ before) p .status) ≡ true
+    {t₀ : Tables} → Started t₀ → (before after : List Step) (p : ℕ) → isOver (passageAt (runOf t₀ before) p .status) ≡ true
     → isRetired p (historyOf (runOf t₀ before) after) ≡ false
     → passageAt (runOf t₀ (before ++ after)) p .status ≡ passageAt (runOf t₀ before) p .status
-over-is-final {t₀} fresh before after p slot over kept =
+over-is-final {t₀} fresh before after p over kept =
+    let slot : p < 16 = over-below (runOf t₀ before) p (sound-run fresh before) over in
     rw
     (run-on t₀ before after)
     (run-carried (StatusIs (passageAt (runOf t₀ before) p .status)) NoWay (over-carries _ over) p slot (runOf t₀ before) after

@@ -1,13 +1,17 @@
 -- In every run the passage that holds an object has a visit at the object's site, and every call in a message slot goes to its object's site.
 -- Assumes nothing.
 use Prim.Native.Nat.{ℕ, _<_}
-use mathlib.Core.Path.{_≡_, refl, sym, _∙_}
+use mathlib.Core.Path.{_≡_, refl, sym, ap, _∙_}
+use mathlib.Core.Logic.{⊎-elim}
 use mathlib.Core.Bool.{true, true≢false}
 use mathlib.Core.List.{List}
+use lib.Dec.{ltb}
+use borrow.Author.Tests.{ltb-true, ltb-false}
 use Rattle.rules.specs.declared.tables.Object.{Object}
 use Rattle.rules.specs.declared.looking.Trip.{Trip}
+use Rattle.rules.specs.LoopsLaws.{either}
 use Rattle.rules.specs.Tables.{pastObject, objectAt, visitAt, messageAt, objectSite, noObject, noMessage, pastMessage, start}
-use Rattle.rules.specs.Parts.{isUnheld}
+use Rattle.rules.specs.Parts.{isUnheld, isHeldBy}
 use Rattle.rules.specs.PartsLaws.{unheld-not-held, none-unheld}
 use Rattle.rules.specs.Rounds.{refreshOf, terminateOf, prepareOf, askOf, tellOf}
 use Rattle.rules.specs.Stations.{tickOf, sweepOf, crashOf, recoverOf}
@@ -17,7 +21,7 @@ use Rattle.rules.specs.RangesLaws.{placed-places, placed-trip}
 use Rattle.rules.specs.Runs.{Started, start-started, runOf}
 use Rattle.rules.specs.Events.{isHolding}
 use Rattle.runs.specs.Types.{Call, Body, Message, Tables, Step, Outcome, Found}
-use Rattle.runs.specs.Walk.Plain.{repeat-has}
+use Rattle.runs.specs.Walk.Plain.{repeat-has, past-reads}
 use Rattle.runs.specs.Walk.Sound.{step-holds, run-holds, sound-head, sound-turn, sound-started}
 use Rattle.runs.specs.Holders.HeldStore.{GoesHome, Held, KeepsHeld, held-stored}
 use Rattle.runs.specs.Holders.HeldSteps.{no-call, held-after-station, held-after-begin, held-after-retire, held-after-drop, held-after-sent, held-after-invoke, held-after-open, held-after-abort, held-after-close, held-after-deliver, held-after-turned}
@@ -96,6 +100,19 @@ held-started fresh = rw (fresh .empty) held-start
 
 pub held-run : {t₀ : Tables} → Started t₀ → (ss : List Step) → Held (runOf t₀ ss)
 held-run {t₀} fresh ss = held-from t₀ ss (held-started fresh)
+
+-- an object that is held is one of 32, and its holder one of sixteen slots
+pub held-below : (t : Tables) (p k : ℕ) → Held t → isHolding t p k ≡ true → (p < 16) × (k < 32)
+held-below t p k held e =
+    ⊎-elim
+    (λ b. let i : k < 32 = ltb-true k 32 b in (held .visits k p i e .0, i))
+    (λ b.
+    absurd
+    (true≢false
+    (sym e
+    ∙ ap (isHeldBy p) (past-reads (t .objects) k pastObject (rw (held .sound .sized .objects) (ltb-false k 32 b)))
+    ∙ unheld-not-held p pastObject (none-unheld .1))))
+    (either (ltb k 32))
 
 -- who holds an object has a visit at its site
 pub held-has-visit :

@@ -1,5 +1,5 @@
--- Nobody operates on both sides of another: of two different uses of slots, no run has the first operating an object before the second does,
--- and the second operating another object before the first does.
+-- Nobody operates on both sides of another: of two different uses of slots, no run has the first operating an object x before the second does,
+-- and the second operating an object y before the first does.
 -- The idea: between the two operations of the one object the first has let it go, at a smaller stamp than the second's operation;
 -- so every operation of the first is before it, and the other way round. Assumes nothing.
 use Prim.Native.Nat.{ℕ, _+_, _≤_, _<_}

@@ -1,5 +1,6 @@
 -- The theorem that an operation is before a letting go: in every run from the start and in one use of a slot,
 -- every operation of its passage at any station has a smaller stamp than every letting go of an object of it at any station, in whichever order the steps came.
+-- That the list has every letting go is `held-by-list` (Events/HeldByList), and what lets go is `let-go-by` (Operations/LetGo).
 -- The idea: go along the list; what an operation or a letting go has shown is carried from its step on, and a retire ends the use. Assumes nothing.
 use Prim.Native.Nat.{ℕ, _≤_, _<_}
 use native.Mathlib.Omega.{arith}

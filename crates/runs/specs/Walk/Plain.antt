@@ -1,8 +1,11 @@
--- Plain facts that several families of laws share: a choice whose test is known, and a list that repeats one record. Assumes nothing.
-use Prim.Native.Nat.{ℕ, zero, suc}
-use mathlib.Core.Path.{_≡_}
+-- Plain facts that several families of laws share: a choice whose test is known, a list that repeats one record, and a place past a list's end. Assumes nothing.
+use Prim.Native.Nat.{ℕ, zero, suc, _≤_}
+use native.Mathlib.Omega.{arith}
+use native.Mathlib.Nat.{not-suc-le-zero}
+use mathlib.Core.Path.{_≡_, refl}
 use mathlib.Core.Bool.{Bool, true, false, cond, true≢false, false≢true}
-use lib.ListN.{getD, replicate}
+use mathlib.Core.List.{List, [], _∷_}
+use lib.ListN.{length, getD, replicate}
 
 -- a choice whose test is known
 pub when-true : {A : Type 0} (P : A → Type 0) (b : Bool) (x y : A) → b ≡ true → P x → P (cond b x y)
@@ -19,3 +22,9 @@ pub repeat-has :
 repeat-has P zero x d h k i = k
 repeat-has P (suc n) x d h k zero = h
 repeat-has P (suc n) x d h k (suc i) = repeat-has P n x d h k i
+
+-- a place past the end of a list holds what stands there
+pub past-reads : {A : Type 0} (l : List A) (i : ℕ) (d : A) → length l ≤ i → getD l i d ≡ d
+past-reads [] i d h = refl
+past-reads (x ∷ xs) zero d h = absurd (not-suc-le-zero h)
+past-reads (x ∷ xs) (suc i) d h = past-reads xs i d (omega arith)

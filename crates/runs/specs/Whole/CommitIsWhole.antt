@@ -23,6 +23,7 @@ use Rattle.runs.specs.Times.View.{Ledger, viewOf}
 use Rattle.runs.specs.Times.Ledgers.{ledgersOf}
 use Rattle.runs.specs.Times.Store.{own-body}
 use Rattle.runs.specs.Kept.Closing.{closing-no-call}
+use Rattle.runs.specs.Holders.Holders.{held-run, held-below}
 use Rattle.runs.specs.Orphans.Widths.{restOf}
 use Rattle.runs.specs.Orphans.Rests.{standing, standing-unheld}
 use Rattle.runs.specs.Orphans.Undone.{rest-after-step}
@@ -92,7 +93,8 @@ whole-after-step t ls step p k slot pledged settled held =
 
 -- ---- the theorem
 
--- among these steps, run after the steps before, is one by which p let object k go, and right after it this was the width that stands
+-- among these steps, run after the steps before, is one by which p let object k go, and right after it this was the width that stands.
+-- (Where the slot is used again later, the letting go may be of the later use; but the theorem speaks of every list of steps, the shortest too)
 pub record LetStand (t₀ : Tables) (before steps : List Step) (p k width : ℕ) : Type 0 where
   pub first : List Step
   pub step : Step
@@ -124,7 +126,7 @@ let-stand-later t₀ before s steps p k width g =
       stands = subst (λ (x : List Step). restOf t₀ (x ++ g .step ∷ []) k ≡ width) same (g .stands);
     }
 
-module _ {t₀ : Tables} (fresh : Started t₀) (p k width : ℕ) (slot : p < 16) (below : k < 32) where
+module _ {t₀ : Tables} (fresh : Started t₀) (p k width : ℕ) (slot : p < 16) where
   -- a step at which the passage is settled
   one-more :
       (before : List Step) (step : Step) → Untouched (runOf t₀ before) p → isHolding (runOf t₀ before) p k ≡ true → objectAt (runOf t₀ before) k .value ≡ width
@@ -175,7 +177,7 @@ module _ {t₀ : Tables} (fresh : Started t₀) (p k width : ℕ) (slot : p < 16
       ap (λ (t : Tables). passageAt t p .status) (run-on t₀ before (s ∷ []))
       ∙ over-after-step (runOf t₀ before) (ledgersOf t₀ before) s p (pledged-run fresh before) slot
       (ap isOver committed)
-      (holder-not-retired fresh before s p k slot below held)
+      (holder-not-retired fresh before s p k held)
       ∙ committed in
       longer before s steps (committed-whole (before ++ s ∷ []) steps still (y .0) (y .1)))
       (λ y. inr (y steps))
@@ -184,22 +186,23 @@ module _ {t₀ : Tables} (fresh : Started t₀) (p k width : ℕ) (slot : p < 16
 -- by the step commit the passage becomes committed;
 -- whatever steps come after it, each object that it held right before is held with its value, or was let go and its value stood
 pub commit-is-whole :
-    {t₀ : Tables} → Started t₀ → (before : List Step) (commit : Step) (after : List Step) (p k : ℕ) → p < 16 → k < 32
+    {t₀ : Tables} → Started t₀ → (before : List Step) (commit : Step) (after : List Step) (p k : ℕ)
     → passageAt (runOf t₀ before) p .status ≢ Status.Committed
     → passageAt (stepOf (runOf t₀ before) commit .tables) p .status ≡ Status.Committed
     → isHolding (runOf t₀ before) p k ≡ true
     → HeldOrLetStand t₀ before (commit ∷ after) p k (objectAt (runOf t₀ before) k .value)
 unfolding runOf
-commit-is-whole {t₀} fresh before commit after p k slot below not-yet committed held =
+commit-is-whole {t₀} fresh before commit after p k not-yet committed held =
+    let slot : p < 16 = held-below (runOf t₀ before) p k (held-run fresh before) held .0 in
     ⊎-elim
     (λ y.
-    longer fresh p k (objectAt (runOf t₀ before) k .value) slot below before commit after
-    (committed-whole fresh p k (objectAt (runOf t₀ before) k .value) slot below (before ++ commit ∷ []) after
+    longer fresh p k (objectAt (runOf t₀ before) k .value) slot before commit after
+    (committed-whole fresh p k (objectAt (runOf t₀ before) k .value) slot (before ++ commit ∷ []) after
     (ap (λ (t : Tables). passageAt t p .status) (run-on t₀ before (commit ∷ [])) ∙ committed)
     (y .0)
     (y .1)))
     (λ y. inr (y after))
-    (one-more fresh p k (objectAt (runOf t₀ before) k .value) slot below before commit
+    (one-more fresh p k (objectAt (runOf t₀ before) k .value) slot before commit
     (settled-at-commit (runOf t₀ before) (ledgersOf t₀ before) p slot (pledged-run fresh before)
     (committed-by-closing (runOf t₀ before) (ledgersOf t₀ before) commit p (pledged-run fresh before) slot not-yet committed))
     held

@@ -23,7 +23,7 @@ use Rattle.runs.specs.Times.View.{Ledger, viewOf}
 use Rattle.runs.specs.Times.Ledgers.{ledgersOf}
 use Rattle.runs.specs.Kept.Closing.{closing-binding}
 use Rattle.runs.specs.Holders.HeldStore.{Held}
-use Rattle.runs.specs.Holders.Holders.{held-run, held-step}
+use Rattle.runs.specs.Holders.Holders.{held-run, held-step, held-below}
 use Rattle.runs.specs.Orphans.Orphans.{retires, isRetired}
 use Rattle.runs.specs.Orphans.Widths.{restOf}
 use Rattle.runs.specs.Orphans.Rests.{standing}
@@ -110,13 +110,13 @@ pub record RestsOn (t₀ : Tables) (before ss : List Step) (p k : ℕ) : Type 0 
 -- Then in the tables before that step its visit at k's station is there and prepared, it holds k,
 -- and the width that stands of k is what it was just before the operation
 pub commit-rests-on-what-stands :
-    {t₀ : Tables} → Started t₀ → (before : List Step) (s : Step) (between : List Step) (commit : Step) (p k : ℕ) → p < 16
+    {t₀ : Tables} → Started t₀ → (before : List Step) (s : Step) (between : List Step) (commit : Step) (p k : ℕ)
     → operates (runOf t₀ before) p k s ≡ true → isRetired p (historyOf (runOf t₀ before) (s ∷ between)) ≡ false
     → passageAt (runOf t₀ (before ++ s ∷ between)) p .status ≢ Status.Committed
     → passageAt (stepOf (runOf t₀ (before ++ s ∷ between)) commit .tables) p .status ≡ Status.Committed
     → RestsOn t₀ before (before ++ s ∷ between) p k
 unfolding runOf
-commit-rests-on-what-stands {t₀} fresh before s between commit p k slot e r not-yet committed =
+commit-rests-on-what-stands {t₀} fresh before s between commit p k e r not-yet committed =
     ⊎-elim
     (λ (h : HoldsStill p k (standing (objectAt (runOf t₀ before) k)) now).
     let there : visitAt now (objectSite k) p .there ≡ true = held-run fresh ss .visits k p below (h .holds) .1 in
@@ -138,6 +138,9 @@ commit-rests-on-what-stands {t₀} fresh before s between commit p k slot e r no
 
     now : Tables
     now = runOf t₀ ss
+
+    slot : p < 16
+    slot = held-below (stepOf (runOf t₀ before) s .tables) p k (held-step (runOf t₀ before) s (held-run fresh before)) (operated-is-held (runOf t₀ before) p k s (held-run fresh before .sound) e) .0
 
     below : k < 32
     below = operated-below (runOf t₀ before) p k s (held-run fresh before .sound) e
@@ -162,18 +165,18 @@ commit-rests-on-what-stands {t₀} fresh before s between commit p k slot e r no
 
 -- so what a first operation of an object answered is the width that stands when its passage becomes committed
 pub read-is-what-stands :
-    {t₀ : Tables} → Started t₀ → (before : List Step) (s : Step) (between : List Step) (commit : Step) (p k : ℕ) → p < 16
+    {t₀ : Tables} → Started t₀ → (before : List Step) (s : Step) (between : List Step) (commit : Step) (p k : ℕ)
     → operates (runOf t₀ before) p k s ≡ true → isHolding (runOf t₀ before) p k ≡ false
     → isRetired p (historyOf (runOf t₀ before) (s ∷ between)) ≡ false
     → passageAt (runOf t₀ (before ++ s ∷ between)) p .status ≢ Status.Committed
     → passageAt (stepOf (runOf t₀ (before ++ s ∷ between)) commit .tables) p .status ≡ Status.Committed
     → stepOf (runOf t₀ before) s .answer ≡ Answer.Accepted (restOf t₀ (before ++ s ∷ between) k)
-read-is-what-stands {t₀} fresh before s between commit p k slot e fresh-hold r not-yet committed =
+read-is-what-stands {t₀} fresh before s between commit p k e fresh-hold r not-yet committed =
     let z = held-run fresh before .sound in
     let free : isUnheld (objectAt (runOf t₀ before) k) ≡ true =
     ⊎-elim
     (λ y. y)
     (λ y. absurd (false≢true (sym fresh-hold ∙ y)))
     (operated-was-free-or-own (runOf t₀ before) p k s z e) in
-    let rests = commit-rests-on-what-stands fresh before s between commit p k slot e r not-yet committed in
+    let rests = commit-rests-on-what-stands fresh before s between commit p k e r not-yet committed in
     operated-reads (runOf t₀ before) p k s z e ∙ ap Answer.Accepted (value-is-rest fresh before k free ∙ sym (rests .stands))

@@ -1,5 +1,5 @@
--- The pair stands or falls together: only the holder's own commit changes a width that stands,
--- a commit lets all that its passage held stand, and an abort lets none of it. Assumes nothing.
+-- The pair stands or falls together: only the holder's own commit changes a width that stands, and no step changes that of an object which an aborted passage holds.
+-- (What a sweep frees has its old width again, `figures-undone`; what a commit lets stand is `commit-is-whole`.) Assumes nothing.
 use Prim.Native.Nat.{ℕ, _<_}
 use mathlib.Core.Path.{_≡_, refl, sym, ap, _∙_, subst}
 use mathlib.Core.Logic.{_≢_, ⊎-elim, _⊎_}
@@ -19,7 +19,7 @@ use Rattle.rules.specs.Events.{isHolding}
 use Rattle.runs.specs.Types.{Status, Tables, Step}
 use Rattle.runs.specs.Walk.Steps.{seenAt}
 use Rattle.runs.specs.Times.Ledgers.{ledgersOf}
-use Rattle.runs.specs.Holders.Holders.{held-run}
+use Rattle.runs.specs.Holders.Holders.{held-run, held-below}
 use Rattle.runs.specs.Orphans.Orphans.{retires, isRetired}
 use Rattle.runs.specs.Orphans.Widths.{restOf, commits}
 use Rattle.runs.specs.Orphans.Rests.{standing, standing-unheld, Stands}
@@ -35,29 +35,26 @@ use Rattle.runs.specs.Whole.Release.{holds-until-release}
 
 pub record ChangedBy (t : Tables) (step : Step) (k : ℕ) : Type 0 where
   pub holder : ℕ
-  pub slot : holder < 16
   pub held : isHolding t holder k ≡ true
   pub committed : passageAt (stepOf t step .tables) holder .status ≡ Status.Committed
 
 -- where the width that stands changes at a step, its holder before the step is a passage that is committed after it
 pub changed-by-its-holder :
-    {t₀ : Tables} → Started t₀ → (ss : List Step) (step : Step) (k : ℕ) → k < 32 → restOf t₀ (ss ++ step ∷ []) k ≢ restOf t₀ ss k
+    {t₀ : Tables} → Started t₀ → (ss : List Step) (step : Step) (k : ℕ) → restOf t₀ (ss ++ step ∷ []) k ≢ restOf t₀ ss k
     → ChangedBy (runOf t₀ ss) step k
-changed-by-its-holder {t₀} fresh ss step k below changed =
+changed-by-its-holder {t₀} fresh ss step k changed =
     ⊎-elim
     (λ same. absurd (moved same))
     (λ let-go.
     let someone = someone-holds o (held-before (let-go .1)) in
-    let slot : someone .0 < 16 = held-run fresh ss .visits k (someone .0) below (someone .1) .0 in
     record {
       holder = someone .0;
-      slot = slot;
       held = someone .1;
       committed =
           ⊎-elim
           (λ w. w .1)
           (λ w. absurd (not-swept w))
-          (holds-until-release fresh ss step (someone .0) k slot (someone .1)
+          (holds-until-release fresh ss step (someone .0) k (someone .1)
           (ap (isHeldBy (someone .0)) (let-go .1) ∙ unheld-not-held (someone .0) (unheld (o .value)) (let-go-unheld (o .value))));
     })
     stands
@@ -94,31 +91,33 @@ changed-by-its-holder {t₀} fresh ss step k below changed =
 
 -- who holds an object is not retired by a step
 pub holder-not-retired :
-    {t₀ : Tables} → Started t₀ → (ss : List Step) (step : Step) (p k : ℕ) → p < 16 → k < 32 → isHolding (runOf t₀ ss) p k ≡ true
+    {t₀ : Tables} → Started t₀ → (ss : List Step) (step : Step) (p k : ℕ) → isHolding (runOf t₀ ss) p k ≡ true
     → (isAccepted (stepOf (runOf t₀ ss) step .answer) && retires p step) ≡ false
-holder-not-retired {t₀} fresh ss step p k slot below held =
+holder-not-retired {t₀} fresh ss step p k held =
+    let below = held-below (runOf t₀ ss) p k (held-run fresh ss) held in
     ⊎-elim
-    (λ r. absurd (true≢false (sym held ∙ retired-holds-nothing (runOf t₀ ss) step p k (held-run fresh ss) slot below r .0)))
+    (λ r. absurd (true≢false (sym held ∙ retired-holds-nothing (runOf t₀ ss) step p k (held-run fresh ss) (below .0) (below .1) r .0)))
     (λ r. r)
     (either (isAccepted (stepOf (runOf t₀ ss) step .answer) && retires p step))
 
 -- once a passage is aborted, and until its slot is retired, no step changes the width that stands of an object that it holds
 pub abort-is-whole :
-    {t₀ : Tables} → Started t₀ → (before after : List Step) (step : Step) (p k : ℕ) → p < 16 → k < 32
+    {t₀ : Tables} → Started t₀ → (before after : List Step) (step : Step) (p k : ℕ)
     → passageAt (runOf t₀ before) p .status ≡ Status.Aborted → isRetired p (historyOf (runOf t₀ before) after) ≡ false
     → isHolding (runOf t₀ (before ++ after)) p k ≡ true
     → restOf t₀ ((before ++ after) ++ step ∷ []) k ≡ restOf t₀ (before ++ after) k
-abort-is-whole {t₀} fresh before after step p k slot below aborted kept held =
+abort-is-whole {t₀} fresh before after step p k aborted kept held =
     ⊎-elim
     (λ e. eqb-true _ _ e)
     (λ e.
-    let by = changed-by-its-holder fresh ss step k below (eqb-false _ _ e) in
+    let by = changed-by-its-holder fresh ss step k (eqb-false _ _ e) in
     let same : by .holder ≡ p = one-holder (by .holder) p (objectAt (runOf t₀ ss) k) (by .held) held in
-    let now : passageAt (runOf t₀ ss) p .status ≡ Status.Aborted = over-is-final fresh before after p slot (ap isOver aborted) kept ∙ aborted in
+    let now : passageAt (runOf t₀ ss) p .status ≡ Status.Aborted = over-is-final fresh before after p (ap isOver aborted) kept ∙ aborted in
+    let slot : p < 16 = held-below (runOf t₀ ss) p k (held-run fresh ss) held .0 in
     let still : passageAt (stepOf (runOf t₀ ss) step .tables) p .status ≡ Status.Aborted =
     over-after-step (runOf t₀ ss) (ledgersOf t₀ ss) step p (pledged-run fresh ss) slot
     (ap isOver now)
-    (holder-not-retired fresh ss step p k slot below held)
+    (holder-not-retired fresh ss step p k held)
     ∙ now in
     absurd (true≢false (ap isAborted (sym still ∙ ap (λ (q : ℕ). passageAt (stepOf (runOf t₀ ss) step .tables) q .status) (sym same) ∙ by .committed))))
     (either (eqb (restOf t₀ (ss ++ step ∷ []) k) (restOf t₀ ss k)))
