@@ -49,13 +49,13 @@ ticksAt site (n ∷ ns) = Step.Tick site n ∷ ticksAt site ns
 abbrev pub clearing : ℕ → List Step → List ℕ → List Step
 clearing site recovers ticks = recovers ++ (ticksAt site ticks ++ (Step.Sweep site ∷ []))
 
--- At most one recover of the station, at most 1,001 ticks of it and one sweep of it, in this order and all accepted from these tables;
+-- At most one recover of the station, at most 1,000 ticks of it and one sweep of it, in this order and all accepted from these tables;
 -- after them the passage slot has no visit there, and holds no object that stands there
 pub record Clears (t : Tables) (site slot : ℕ) : Type 0 where
   pub recovers : List Step
   pub one-recover : (recovers ≡ []) ⊎ (recovers ≡ Step.Recover site ∷ [])
   pub ticks : List ℕ
-  pub few-ticks : length ticks ≤ 1001
+  pub few-ticks : length ticks ≤ 1000
   pub accepted : AllAccepted t (clearing site recovers ticks)
   pub cleared : NothingLeft (runOf t (clearing site recovers ticks)) slot site
 
@@ -289,7 +289,7 @@ module _ {t₀ : Tables} (fresh : Started t₀) (before : List Step) (slot site 
           recovers = recovers;
           one-recover = one;
           ticks = k .ticks;
-          few-ticks = let f : length (k .ticks) ≤ 1000 = k .few in omega arith;
+          few-ticks = k .few;
           accepted = all-accepted-on Now recovers _ taken (all-accepted-on _ (ticksAt site (k .ticks)) _ (k .accepted) (sweep-taken, tt));
           cleared =
               rw
