@@ -7,3 +7,4 @@ pub mod Delivered
 pub mod HeldAway
 pub mod LetGo
 pub mod HeldObject
+pub mod Struck
