@@ -5,14 +5,15 @@ use native.Mathlib.Omega.{arith}
 use native.Mathlib.Nat.{ne-of-lt}
 use mathlib.Core.Path.{_≡_, refl, sym, ap, _∙_, subst, subst₂}
 use mathlib.Core.Logic.{_≢_, ⊎-elim, _⊎_, inl, inr}
-use mathlib.Core.Bool.{Bool, true, false, cond, not, _||_}
-use borrow.Author.Tests.{ltb-false, eq-eqb}
+use mathlib.Core.Bool.{Bool, true, false, cond, not, _||_, false≢true}
+use borrow.Author.Tests.{ltb-false, leb-false, eq-eqb}
 use Rattle.rules.specs.declared.looking.Trip.{Trip}
+use Rattle.rules.specs.LoopsLaws.{either}
 use Rattle.rules.specs.Tables.{siteAt, passageAt, visitAt}
 use Rattle.rules.specs.Answers.{isAccepted}
 use Rattle.rules.specs.AnswersLaws.{accepted-fine, settle-accepted}
 use Rattle.rules.specs.Parts.{nextClock, clockTo, withUp, isRunning, abortedPassage, quieted, whereThere}
-use Rattle.rules.specs.Stations.{crashChecks, crashDone, crashOf, losesHome, crashedSlot}
+use Rattle.rules.specs.Stations.{sweepChecks, sweepDone, sweepOf, isSweepable, isSwept, sweptSlot, crashChecks, crashDone, crashOf, losesHome, crashedSlot}
 use Rattle.rules.specs.Machine.{lookOf, placesOf, seenOf, decideOf, headOf, tripSite, tripPlaces, turnSeen, turnOf, stepOf}
 use Rattle.rules.specs.RangesLaws.{placed-places, placed-trip}
 use Rattle.rules.specs.StoredLaws.{turn-stored, visit-place-same, site-after-stored, passage-after-stored, passage-after-stored-other, visit-after-stored, visit-after-stored-other}
@@ -325,3 +326,52 @@ module _ (t : Tables) (s : ℕ) (z : Sound t) (a : isAccepted (stepOf t (Step.Cr
         down = rw crash-here at crash-station;
         slots = λ p slot. rw crash-here at (crash-slot p slot);
       }
+
+-- ---- sweeps
+
+-- a visit that a turn of a sweep leaves there, though a sweep may take it, has its release time after the clock
+left-unreleased :
+    (s p : ℕ) (seen : Seen) → sweptSlot s p seen .visit .there ≡ true → isSweepable (sweptSlot s p seen .visit) ≡ true
+    → seen .site .clock < sweptSlot s p seen .visit .release
+unfolding sweptSlot
+left-unreleased s p seen =
+    ⊎-elim
+    (λ e. rw e (λ there f. absurd (false≢true there)))
+    (λ e. rw e (λ there f. leb-false (seen .visit .release) (seen .site .clock) (rw (there, f) at e)))
+    (either (isSwept seen))
+
+module _ (t : Tables) (s : ℕ) (z : Sound t) (a : isAccepted (stepOf t (Step.Sweep s) .answer) ≡ true) where
+  sweep-stays :
+      (found : Found) (seen : Seen)
+      → (decideOf (Step.Sweep s) found seen .left .passage ≡ seen .passage) × (decideOf (Step.Sweep s) found seen .left .visit ≡ seen .visit)
+  unfolding decideOf sweepOf
+  sweep-stays found seen =
+      settled (λ (x : Seen). (x .passage ≡ seen .passage) × (x .visit ≡ seen .visit)) _ _ seen _ (λ f. (refl, refl)) (refl, refl)
+
+  sweep-decided : isAccepted (sweepDone s (seenAt t (Step.Sweep s)) .answer) ≡ true
+  unfolding headOf decideOf sweepOf
+  sweep-decided = head-accepted t (Step.Sweep s) a
+
+  -- an accepted sweep is of one of the eight stations
+  pub sweep-below : s < 8
+  sweep-below =
+      let l : s ≤ 7 = ltb-false 7 s (accepted-fine (sweepChecks s (seenAt t (Step.Sweep s))) 0 sweep-decided .fields) in omega arith
+
+  sweep-here : s % 8 ≡ s
+  sweep-here = let l : s < 8 = sweep-below in omega arith
+
+  sweep-slot :
+      (p : ℕ) → p < 16 → visitAt (stepOf t (Step.Sweep s) .tables) (s % 8) p .there ≡ true
+      → isSweepable (visitAt (stepOf t (Step.Sweep s) .tables) (s % 8) p) ≡ true
+      → siteAt (stepOf t (Step.Sweep s) .tables) (s % 8) .clock < visitAt (stepOf t (Step.Sweep s) .tables) (s % 8) p .release
+  sweep-slot p slot =
+      slot-after t (Step.Sweep s) z sweep-stays a (rw (head-accepted t (Step.Sweep s) a)) p slot
+      (λ x v. v .there ≡ true → isSweepable v ≡ true → siteAt (stepOf t (Step.Sweep s) .tables) (s % 8) .clock < v .release)
+      (λ seen c x v. rw (sym c) (left-unreleased s p seen))
+
+  -- after an accepted sweep every visit at its station that a sweep may take has its release time after the clock: no other is left there
+  pub sweep-takes :
+      (p : ℕ) → p < 16 → visitAt (stepOf t (Step.Sweep s) .tables) s p .there ≡ true
+      → isSweepable (visitAt (stepOf t (Step.Sweep s) .tables) s p) ≡ true
+      → siteAt (stepOf t (Step.Sweep s) .tables) s .clock < visitAt (stepOf t (Step.Sweep s) .tables) s p .release
+  sweep-takes p slot = rw sweep-here at (sweep-slot p slot)
