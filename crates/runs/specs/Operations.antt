@@ -7,4 +7,5 @@ pub mod Delivered
 pub mod HeldAway
 pub mod LetGo
 pub mod HeldObject
+pub mod Stamped
 pub mod Struck
