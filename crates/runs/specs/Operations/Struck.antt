@@ -9,16 +9,17 @@ use mathlib.Core.Bool.{Bool, true, false, cond, not, _||_, false≢true}
 use borrow.Author.Tests.{ltb-false, leb-false, eq-eqb}
 use Rattle.rules.specs.declared.looking.Trip.{Trip}
 use Rattle.rules.specs.LoopsLaws.{either}
-use Rattle.rules.specs.Tables.{siteAt, passageAt, visitAt}
+use Rattle.rules.specs.Tables.{siteAt, passageAt, visitAt, messageAt, slotOf}
 use Rattle.rules.specs.Answers.{isAccepted}
 use Rattle.rules.specs.AnswersLaws.{accepted-fine, settle-accepted}
 use Rattle.rules.specs.Parts.{nextClock, clockTo, withUp, isRunning, abortedPassage, quieted, whereThere}
 use Rattle.rules.specs.Stations.{sweepChecks, sweepDone, sweepOf, isSweepable, isSwept, sweptSlot, crashChecks, crashDone, crashOf, losesHome, crashedSlot}
+use Rattle.rules.specs.Rounds.{openOf, terminateOf}
 use Rattle.rules.specs.Machine.{lookOf, placesOf, seenOf, decideOf, headOf, tripSite, tripPlaces, turnSeen, turnOf, stepOf}
 use Rattle.rules.specs.RangesLaws.{placed-places, placed-trip}
 use Rattle.rules.specs.StoredLaws.{turn-stored, visit-place-same, site-after-stored, passage-after-stored, passage-after-stored-other, visit-after-stored, visit-after-stored-other}
-use Rattle.rules.specs.Views.{settled}
-use Rattle.runs.specs.Types.{Site, Phase, Status, Passage, Visit, Tables, Step, Seen, Outcome, Found}
+use Rattle.rules.specs.Views.{settled, settled-accepted}
+use Rattle.runs.specs.Types.{Site, Phase, Status, Passage, Visit, Asked, Body, Tables, Step, Seen, Outcome, Found}
 use Rattle.runs.specs.Walk.Plain.{when-true}
 use Rattle.runs.specs.Walk.Put.{same-or-other}
 use Rattle.runs.specs.Walk.Steps.{placesAt, seenAt, turnsOf, head-accepted}
@@ -26,6 +27,8 @@ use Rattle.runs.specs.Walk.Sound.{Sound, sound-accepted-has}
 use Rattle.runs.specs.Walk.Clocks.{turned-site}
 use Rattle.runs.specs.Promises.Promised.{stored-has}
 use Rattle.runs.specs.Promises.Standing.{passage-has}
+use Rattle.runs.specs.Operations.Single.{accepted-seen, decision-accepted, single-stored}
+use Rattle.runs.specs.Operations.Stamped.{asked-visit}
 
 -- ---- one slot of a step that goes through them all: its turn sees its passage and its visit as they were before the step
 
@@ -375,3 +378,38 @@ module _ (t : Tables) (s : ℕ) (z : Sound t) (a : isAccepted (stepOf t (Step.Sw
       → isSweepable (visitAt (stepOf t (Step.Sweep s) .tables) s p) ≡ true
       → siteAt (stepOf t (Step.Sweep s) .tables) s .clock < visitAt (stepOf t (Step.Sweep s) .tables) s p .release
   sweep-takes p slot = rw sweep-here at (sweep-slot p slot)
+
+-- ---- terminates
+
+-- after an accepted delivery of a phase 1 terminate the visit of its slot at its destination is unprepared
+pub terminate-unmarks-there :
+    (t : Tables) (m n : ℕ) → Sound t → isAccepted (stepOf t (Step.Deliver m) .answer) ≡ true
+    → messageAt t m .body ≡ Body.PhaseOne n Asked.Terminate
+    → visitAt (stepOf t (Step.Deliver m) .tables) (messageAt t m .destination) (slotOf (messageAt t m .handle)) .prepared ≡ false
+terminate-unmarks-there t m n z a b = ap (λ (v : Visit). v .prepared) (asked-visit t m n Asked.Terminate z a b)
+
+-- after an accepted terminate the home visit is unprepared
+pub terminate-unmarks :
+    (t : Tables) (h : ℕ) → Sound t → isAccepted (stepOf t (Step.Terminate h) .answer) ≡ true
+    → visitAt (stepOf t (Step.Terminate h) .tables) (passageAt t (slotOf h) .home) (slotOf h) .prepared ≡ false
+unfolding decideOf terminateOf openOf placesOf
+terminate-unmarks t h z a =
+    let l : passageAt t (slotOf h) .home ≤ 7 = accepted-seen t (Step.Terminate h) a .passage .home in
+    let here : passageAt t (slotOf h) .home % 8 ≡ passageAt t (slotOf h) .home = omega arith in
+    subst
+    (λ (x : ℕ). visitAt (stepOf t (Step.Terminate h) .tables) x (slotOf h) .prepared ≡ false)
+    here
+    (ap
+    (λ (u : Tables). visitAt u (passageAt t (slotOf h) .home % 8) (slotOf h) .prepared)
+    (single-stored t (Step.Terminate h) refl a)
+    ∙ ap
+    (λ (v : Visit). v .prepared)
+    (visit-after-stored t (placesAt t (Step.Terminate h)) _ (z .sized) (placed-places t (lookOf (Step.Terminate h))))
+    ∙ settled-accepted
+    (λ (x : Seen). x .visit .prepared ≡ false)
+    _
+    _
+    (seenAt t (Step.Terminate h))
+    _
+    (λ f. refl)
+    (decision-accepted t (Step.Terminate h) a))
