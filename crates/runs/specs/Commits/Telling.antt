@@ -73,7 +73,10 @@ module _ (w : View) (a k : ℕ) (p : Passage) (v : Visit) (l : Ledger) (h : Hold
       ⊎-elim
       (λ q.
       let x : v ≡ toldVisit (roundTold (w .passage .round)) (w .visit a) = e ∙ where-is (w .visit a) _ q in
-      false≢true (ap (λ (d : Kind). toldVisit (toldOf d (largestQuiesce (w .passage .round))) (w .visit a) .there) (sym kind) ∙ ap (λ (z : Visit). z .there) (sym x) ∙ there))
+      false≢true
+      (ap (λ (d : Kind). toldVisit (toldOf d (largestQuiesce (w .passage .round))) (w .visit a) .there) (sym kind)
+      ∙ ap (λ (z : Visit). z .there) (sym x)
+      ∙ there))
       (λ q. false≢true (sym q ∙ ap (λ (z : Visit). z .there) (sym (e ∙ where-not (w .visit a) _ q)) ∙ there))
       (either (w .visit a .there))
 
@@ -192,7 +195,8 @@ telling-after-head t step ls k e =
       pledged = pledged-after-head t step ls (k .pledged) e;
       answered =
           answered-stored t at left (k .pledged .kept .sound .sized) (placed-places t (lookOf step)) (k .answered)
-          (answered-moved (viewOf t (at .slot)) (at .site) (at .message) (left .passage) (left .visit) (ls (at .slot)) hold (k .pledged .vows (at .slot) below) (k .answered (at .slot) below)
+          (answered-moved (viewOf t (at .slot)) (at .site) (at .message) (left .passage) (left .visit) (ls (at .slot))
+          hold (k .pledged .vows (at .slot) below) (k .answered (at .slot) below)
           (move-of t (k .pledged .kept .range) (ls (at .slot)) step hold e));
     }
 

@@ -12,7 +12,7 @@ use Rattle.rules.specs.LoopsLaws.{either}
 use Rattle.rules.specs.Tables.{siteAt, passageAt, visitAt, messageAt, slotOf}
 use Rattle.rules.specs.Answers.{isAccepted}
 use Rattle.rules.specs.AnswersLaws.{accepted-fine, settle-accepted}
-use Rattle.rules.specs.Parts.{nextClock, clockTo, withUp, isRunning, abortedPassage, quieted, whereThere}
+use Rattle.rules.specs.Parts.{isRunning, quieted, whereThere}
 use Rattle.rules.specs.Stations.{sweepChecks, sweepDone, sweepOf, isSweepable, isSwept, sweptSlot, crashChecks, crashDone, crashOf, losesHome, crashedSlot}
 use Rattle.rules.specs.Rounds.{openOf, terminateOf}
 use Rattle.rules.specs.Machine.{lookOf, placesOf, seenOf, decideOf, headOf, tripSite, tripPlaces, turnSeen, turnOf, stepOf}
