@@ -36,6 +36,7 @@ pub mod EffectsCalls
 pub mod EffectsRounds
 pub mod EffectsPhases
 pub mod Runs
+pub mod StartLaws
 pub mod Events
 pub mod Views
 pub mod Sheet

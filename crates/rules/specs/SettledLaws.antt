@@ -1,20 +1,23 @@
--- Every decision is settled by its checks, of which none gives 20: one row to a step and one to a message's body.
--- That a refusal leaves what was seen, and that no step gives 20, is read from these rows. Assumes nothing.
-use Prim.Native.Nat.{ℕ}
+-- Every decision is settled by its checks, of which none gives 20 and whose numbers rise: one row to a step and one to a message's body.
+-- That a refusal leaves what was seen, that no step gives 20, and that a refusal is the lowest that applies, is read from these rows. Assumes nothing.
+use Prim.Native.Nat.{ℕ, _<_, _≤_}
+use native.Mathlib.Omega.{arith}
 use mathlib.Core.Path.{_≡_, refl}
 use mathlib.Core.Logic.{⊎-elim}
-use mathlib.Core.Bool.{Bool, true, false, not, _&&_}
+use mathlib.Core.Bool.{Bool, true, false, not, _&&_, _||_, false≢true}
 use mathlib.Core.List.{List, [], _∷_}
-use lib.Dec.{eqb}
+use lib.Dec.{eqb, leb, ltb}
+use borrow.Author.Tests.{ltb-true}
 use Rattle.rules.specs.Types.{Body, Step, Refusal, Answer, Check, Seen, Found, Decision}
 use Rattle.rules.specs.Answers.{refuse, refusalNumber, answerNumber, isAccepted, firstOf, settleOf}
-use Rattle.rules.specs.AnswersLaws.{settle-refused, accepted-fine}
+use Rattle.rules.specs.AnswersLaws.{Clear, settle-refused, accepted-fine}
 use Rattle.rules.specs.LoopsLaws.{and-left, and-right, not-true, either}
-use Rattle.rules.specs.Checks.{badMessage}
-use Rattle.rules.specs.Stations.{tickOf, sweepOf, crashOf, recoverOf}
-use Rattle.rules.specs.Passages.{beginOf, abortOf, retireOf}
-use Rattle.rules.specs.Rounds.{openOf, refreshOf, terminateOf, prepareOf, askOf, closeOf, tellOf}
-use Rattle.rules.specs.Calls.{invokeOf, emptyOf, deliverCallOf, deliverPhaseOneOf, deliverPhaseTwoOf, deliverAnswerOf, deliverBodyOf, dropOf}
+use Rattle.rules.specs.Checks.{badHandle, badTimes, badMessage, noMail}
+use Rattle.rules.specs.Parts.{isActive, isRunning, isAborted, asksLife, tellsLife}
+use Rattle.rules.specs.Stations.{tickChecks, tickOf, sweepChecks, sweepOf, crashChecks, crashOf, recoverChecks, recoverOf}
+use Rattle.rules.specs.Passages.{beginChecks, beginOf, abortChecks, abortOf, retireChecks, retireOf}
+use Rattle.rules.specs.Rounds.{openChecks, openOf, refreshOf, terminateOf, prepareOf, askChecks, askOf, closeChecks, closeOf, tellChecks, tellOf}
+use Rattle.rules.specs.Calls.{mailClock, invokeChecks, invokeOf, emptyOf, callChecks, deliverCallOf, roundChecks, deliverPhaseOneOf, deliverPhaseTwoOf, answerChecks, deliverAnswerOf, deliverBodyOf, dropOf}
 use Rattle.rules.specs.Machine.{decideOf}
 
 -- ---- number 20 and a list of checks
@@ -36,6 +39,64 @@ first-not-twenty (c ∷ cs) v e =
     (λ h. rw h (first-not-twenty cs v (and-right (not (eqb (refusalNumber (c .gives)) 20)) (noTwenty cs) e)))
     (either (c .holds))
 
+-- ---- rising numbers
+
+-- the numbers of these checks rise, from above n
+abbrev pub isRising : ℕ → List Check → Bool
+isRising n [] = true
+isRising n (c ∷ cs) = ltb n (refusalNumber (c .gives)) && isRising (refusalNumber (c .gives)) cs
+
+-- every check of the list that holds has a number of n or more
+abbrev pub NoneBelow : ℕ → List Check → Type 0
+NoneBelow n [] = Unit {0}
+NoneBelow n (c ∷ cs) = (c .holds ≡ true → n ≤ refusalNumber (c .gives)) × NoneBelow n cs
+
+rising-above : (cs : List Check) (n k : ℕ) → n ≤ k → isRising k cs ≡ true → NoneBelow n cs
+rising-above [] n k l e = tt
+rising-above (c ∷ cs) n k l e =
+    let i : k < refusalNumber (c .gives) = ltb-true _ _ (and-left _ (isRising (refusalNumber (c .gives)) cs) e) in
+    (λ h. omega arith, rising-above cs n (refusalNumber (c .gives)) (omega arith) (and-right (ltb k (refusalNumber (c .gives))) _ e))
+
+-- so the first that holds is the lowest that holds
+first-lowest : (cs : List Check) (v k : ℕ) → isRising k cs ≡ true → NoneBelow (answerNumber (firstOf cs v)) cs
+unfolding firstOf
+first-lowest [] v k e = tt
+first-lowest (c ∷ cs) v k e =
+    let rest : isRising (refusalNumber (c .gives)) cs ≡ true = and-right (ltb k (refusalNumber (c .gives))) _ e in
+    ⊎-elim
+    (λ h. rw h (λ y. omega arith, rising-above cs (refusalNumber (c .gives)) (refusalNumber (c .gives)) (omega arith) rest))
+    (λ h. rw h (λ y. absurd (false≢true y), first-lowest cs v (refusalNumber (c .gives)) rest))
+    (either (c .holds))
+
+-- ---- the checks of every step, in the order in which they are tried
+
+-- of a delivery, by what the message slot holds
+abbrev pub deliveryChecks : Body → ℕ → Seen → List Check
+deliveryChecks Body.Empty m seen = refuse Refusal.BadField (badMessage m) ∷ noMail seen ∷ []
+deliveryChecks (Body.Call c) m seen = callChecks m c seen
+deliveryChecks (Body.PhaseOne n a) m seen = roundChecks m (asksLife a) (leb n (seen .visit .round)) (mailClock seen) seen
+deliveryChecks (Body.PhaseTwo n d) m seen = roundChecks m (tellsLife d) (not (eqb n (seen .visit .round))) (mailClock seen) seen
+deliveryChecks (Body.Answer n r q) m seen = answerChecks m n seen
+
+-- by the step
+abbrev pub checksOf : Step → Found → Seen → List Check
+checksOf (Step.Tick site n) found seen = tickChecks site n seen
+checksOf (Step.Begin home slot q r) found seen = beginChecks home slot q r seen
+checksOf (Step.Invoke h site write object value) found seen = invokeChecks h site write object value seen
+checksOf (Step.Refresh h q r) found seen = openChecks h (badHandle h || badTimes q r) (not (isActive (seen .passage .status))) seen
+checksOf (Step.Terminate h) found seen = openChecks h (badHandle h) (not (isAborted (seen .passage .status))) seen
+checksOf (Step.Prepare h) found seen = openChecks h (badHandle h) (not (isRunning (seen .passage .status))) seen
+checksOf (Step.Ask h site) found seen = askChecks h site seen
+checksOf (Step.Close h) found seen = closeChecks h seen
+checksOf (Step.Tell h site) found seen = tellChecks h site seen
+checksOf (Step.Abort h) found seen = abortChecks h seen
+checksOf (Step.Deliver m) found seen = deliveryChecks (seen .message .body) m seen
+checksOf (Step.Drop m) found seen = refuse Refusal.BadField (badMessage m) ∷ noMail seen ∷ []
+checksOf (Step.Sweep site) found seen = sweepChecks site seen
+checksOf (Step.Crash site) found seen = crashChecks site seen
+checksOf (Step.Recover site) found seen = recoverChecks site seen
+checksOf (Step.Retire h) found seen = retireChecks h (found .remains) seen
+
 -- ---- what it is to be settled
 
 -- this decision is settled by these checks: the first of them that holds is the answer, and a refusal leaves what was seen
@@ -44,11 +105,12 @@ record Checked (cs : List Check) (d : Decision) (seen : Seen) : Type 0 where
   left : Seen
   decided : d ≡ settleOf (record { answer = firstOf cs value; left = left }) seen
   twentyless : noTwenty cs ≡ true
+  rising : isRising 0 cs ≡ true
 
 settles :
-    (cs : List Check) (v : ℕ) (left seen : Seen) → noTwenty cs ≡ true
+    (cs : List Check) (v : ℕ) (left seen : Seen) → noTwenty cs ≡ true → isRising 0 cs ≡ true
     → Checked cs (settleOf (record { answer = firstOf cs v; left = left }) seen) seen
-settles cs v left seen e = record { value = v; left = left; decided = refl; twentyless = e }
+settles cs v left seen e r = record { value = v; left = left; decided = refl; twentyless = e; rising = r }
 
 module _ (cs : List Check) (d : Decision) (seen : Seen) (s : Checked cs d seen) where
   checked-refused : isAccepted (d .answer) ≡ false → d .left ≡ seen
@@ -58,65 +120,74 @@ module _ (cs : List Check) (d : Decision) (seen : Seen) (s : Checked cs d seen) 
   checked-not-twenty : isTwenty (d .answer) ≡ false
   checked-not-twenty = rw (s .decided) (first-not-twenty cs (s .value) (s .twentyless))
 
--- ---- by what the message slot holds: the first check asks for the message slot
+  checked-answer : d .answer ≡ firstOf cs (s .value)
+  checked-answer = rw (s .decided)
 
-record DeliveryChecked (m : ℕ) (d : Decision) (seen : Seen) : Type 0 where
-  others : List Check
-  checked : Checked (refuse Refusal.BadField (badMessage m) ∷ others) d seen
-
-delivery-checks :
-    {m : ℕ} {others : List Check} {d : Decision} {seen : Seen} → Checked (refuse Refusal.BadField (badMessage m) ∷ others) d seen
-    → DeliveryChecked m d seen
-delivery-checks {m} {others} {d} {seen} s = record { others = others; checked = s }
-
-delivered-checked : (b : Body) (m : ℕ) (seen : Seen) → DeliveryChecked m (deliverBodyOf b m seen) seen
+-- by what the message slot holds
+delivered-checked : (b : Body) (m : ℕ) (seen : Seen) → Checked (deliveryChecks b m seen) (deliverBodyOf b m seen) seen
 unfolding deliverBodyOf emptyOf deliverCallOf deliverPhaseOneOf deliverPhaseTwoOf deliverAnswerOf
-delivered-checked Body.Empty m seen = delivery-checks (settles _ _ _ seen refl)
-delivered-checked (Body.Call c) m seen = delivery-checks (settles _ _ _ seen refl)
-delivered-checked (Body.PhaseOne n a) m seen = delivery-checks (settles _ _ _ seen refl)
-delivered-checked (Body.PhaseTwo n d) m seen = delivery-checks (settles _ _ _ seen refl)
-delivered-checked (Body.Answer n r q) m seen = delivery-checks (settles _ _ _ seen refl)
+delivered-checked Body.Empty m seen = settles _ _ _ seen refl refl
+delivered-checked (Body.Call c) m seen = settles _ _ _ seen refl refl
+delivered-checked (Body.PhaseOne n a) m seen = settles _ _ _ seen refl refl
+delivered-checked (Body.PhaseTwo n d) m seen = settles _ _ _ seen refl refl
+delivered-checked (Body.Answer n r q) m seen = settles _ _ _ seen refl refl
+
+-- the first check of every delivery asks for the message slot
+first-asks : (b : Body) (m : ℕ) (seen : Seen) → Clear (deliveryChecks b m seen) → badMessage m ≡ false
+first-asks Body.Empty m seen f = f .0
+first-asks (Body.Call c) m seen f = f .0
+first-asks (Body.PhaseOne n a) m seen f = f .0
+first-asks (Body.PhaseTwo n d) m seen f = f .0
+first-asks (Body.Answer n r q) m seen f = f .0
 
 -- an accepted delivery names a message slot that there is
 pub delivered-named : (b : Body) (m : ℕ) (seen : Seen) → isAccepted (deliverBodyOf b m seen .answer) ≡ true → badMessage m ≡ false
 delivered-named b m seen e =
     let s = delivered-checked b m seen in
-    accepted-fine (refuse Refusal.BadField (badMessage m) ∷ s .others) (s .checked .value) (rw (s .checked .decided) at e) .fields
+    first-asks b m seen (accepted-fine (deliveryChecks b m seen) (s .value) (rw (s .decided) at e) .all)
 
 -- ---- by the step
 
-record StepChecked (step : Step) (found : Found) (seen : Seen) : Type 0 where
-  checks : List Check
-  checked : Checked checks (decideOf step found seen) seen
-
-step-checks :
-    {step : Step} {found : Found} {seen : Seen} {cs : List Check} → Checked cs (decideOf step found seen) seen → StepChecked step found seen
-step-checks {step} {found} {seen} {cs} s = record { checks = cs; checked = s }
-
-step-checked : (step : Step) (found : Found) (seen : Seen) → StepChecked step found seen
+step-checked : (step : Step) (found : Found) (seen : Seen) → Checked (checksOf step found seen) (decideOf step found seen) seen
 unfolding decideOf tickOf sweepOf crashOf recoverOf beginOf abortOf retireOf refreshOf terminateOf prepareOf openOf askOf closeOf tellOf invokeOf dropOf
-step-checked (Step.Tick site n) found seen = step-checks (settles _ _ _ seen refl)
-step-checked (Step.Begin home slot q r) found seen = step-checks (settles _ _ _ seen refl)
-step-checked (Step.Invoke h site write object value) found seen = step-checks (settles _ _ _ seen refl)
-step-checked (Step.Refresh h q r) found seen = step-checks (settles _ _ _ seen refl)
-step-checked (Step.Terminate h) found seen = step-checks (settles _ _ _ seen refl)
-step-checked (Step.Prepare h) found seen = step-checks (settles _ _ _ seen refl)
-step-checked (Step.Ask h site) found seen = step-checks (settles _ _ _ seen refl)
-step-checked (Step.Close h) found seen = step-checks (settles _ _ _ seen refl)
-step-checked (Step.Tell h site) found seen = step-checks (settles _ _ _ seen refl)
-step-checked (Step.Abort h) found seen = step-checks (settles _ _ _ seen refl)
-step-checked (Step.Deliver m) found seen = step-checks (delivered-checked (seen .message .body) m seen .checked)
-step-checked (Step.Drop m) found seen = step-checks (settles _ _ _ seen refl)
-step-checked (Step.Sweep site) found seen = step-checks (settles _ _ _ seen refl)
-step-checked (Step.Crash site) found seen = step-checks (settles _ _ _ seen refl)
-step-checked (Step.Recover site) found seen = step-checks (settles _ _ _ seen refl)
-step-checked (Step.Retire h) found seen = step-checks (settles _ _ _ seen refl)
+step-checked (Step.Tick site n) found seen = settles _ _ _ seen refl refl
+step-checked (Step.Begin home slot q r) found seen = settles _ _ _ seen refl refl
+step-checked (Step.Invoke h site write object value) found seen = settles _ _ _ seen refl refl
+step-checked (Step.Refresh h q r) found seen = settles _ _ _ seen refl refl
+step-checked (Step.Terminate h) found seen = settles _ _ _ seen refl refl
+step-checked (Step.Prepare h) found seen = settles _ _ _ seen refl refl
+step-checked (Step.Ask h site) found seen = settles _ _ _ seen refl refl
+step-checked (Step.Close h) found seen = settles _ _ _ seen refl refl
+step-checked (Step.Tell h site) found seen = settles _ _ _ seen refl refl
+step-checked (Step.Abort h) found seen = settles _ _ _ seen refl refl
+step-checked (Step.Deliver m) found seen = delivered-checked (seen .message .body) m seen
+step-checked (Step.Drop m) found seen = settles _ _ _ seen refl refl
+step-checked (Step.Sweep site) found seen = settles _ _ _ seen refl refl
+step-checked (Step.Crash site) found seen = settles _ _ _ seen refl refl
+step-checked (Step.Recover site) found seen = settles _ _ _ seen refl refl
+step-checked (Step.Retire h) found seen = settles _ _ _ seen refl refl
+
+-- the first of its checks that holds is the answer of every decision, and where none does it is accepted
+pub decided-by-checks : (step : Step) (found : Found) (seen : Seen) → (v : ℕ) × (decideOf step found seen .answer ≡ firstOf (checksOf step found seen) v)
+decided-by-checks step found seen =
+    (step-checked step found seen .value, checked-answer _ (decideOf step found seen) seen (step-checked step found seen))
+
+-- the refusal numbers of the checks of every step rise
+pub checks-rise : (step : Step) (found : Found) (seen : Seen) → isRising 0 (checksOf step found seen) ≡ true
+checks-rise step found seen = step-checked step found seen .rising
+
+-- so a refusal has the lowest number of all that apply: no check that holds has a lower one
+pub lowest-refuses : (step : Step) (found : Found) (seen : Seen) → NoneBelow (answerNumber (decideOf step found seen .answer)) (checksOf step found seen)
+lowest-refuses step found seen =
+    rw
+    (decided-by-checks step found seen .1)
+    (first-lowest (checksOf step found seen) (decided-by-checks step found seen .0) 0 (checks-rise step found seen))
 
 -- a refused decision leaves what was seen
 pub decided-refused :
     (step : Step) (found : Found) (seen : Seen) → isAccepted (decideOf step found seen .answer) ≡ false
     → decideOf step found seen .left ≡ seen
-decided-refused step found seen = checked-refused _ (decideOf step found seen) seen (step-checked step found seen .checked)
+decided-refused step found seen = checked-refused _ (decideOf step found seen) seen (step-checked step found seen)
 
 pub decided-not-twenty : (step : Step) (found : Found) (seen : Seen) → isTwenty (decideOf step found seen .answer) ≡ false
-decided-not-twenty step found seen = checked-not-twenty _ (decideOf step found seen) seen (step-checked step found seen .checked)
+decided-not-twenty step found seen = checked-not-twenty _ (decideOf step found seen) seen (step-checked step found seen)

@@ -5,4 +5,5 @@ pub mod VowKept
 pub mod Pledged
 pub mod Since
 pub mod Over
+pub mod Telling
 pub mod Word

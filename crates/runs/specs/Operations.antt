@@ -1,4 +1,5 @@
--- What one step does, of any tables: what an operation answers and leaves, what a call says, when a delivery comes, by what an object is let go, what becomes of one that is held.
+-- What one step does, of any tables: what an operation answers and leaves, what a call says, when a delivery comes and how a message is stamped,
+-- by what an object is let go, what becomes of one that is held, and what a crash strikes, a sweep takes and a terminate unmarks.
 pub mod Definitions
 pub mod Single
 pub mod Operated
@@ -7,3 +8,5 @@ pub mod Delivered
 pub mod HeldAway
 pub mod LetGo
 pub mod HeldObject
+pub mod Stamped
+pub mod Struck

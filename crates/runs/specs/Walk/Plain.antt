@@ -5,7 +5,8 @@ use native.Mathlib.Nat.{not-suc-le-zero}
 use mathlib.Core.Path.{_≡_, refl}
 use mathlib.Core.Bool.{Bool, true, false, cond, true≢false, false≢true}
 use mathlib.Core.List.{List, [], _∷_}
-use lib.ListN.{length, getD, replicate}
+use lib.ListN.{length, getD}
+pub use Rattle.rules.specs.StartLaws.{repeat-has}
 
 -- a choice whose test is known
 pub when-true : {A : Type 0} (P : A → Type 0) (b : Bool) (x y : A) → b ≡ true → P x → P (cond b x y)
@@ -15,13 +16,6 @@ when-true P false x y e z = absurd (false≢true e)
 pub when-false : {A : Type 0} (P : A → Type 0) (b : Bool) (x y : A) → b ≡ false → P y → P (cond b x y)
 when-false P true x y e z = absurd (true≢false e)
 when-false P false x y e z = z
-
--- every place of a repeated record holds it, and so does a place past the end, if what stands there is as good
-pub repeat-has :
-    {A : Type 0} (P : A → Type 0) (n : ℕ) (x d : A) → P x → P d → (i : ℕ) → P (getD (replicate n x) i d)
-repeat-has P zero x d h k i = k
-repeat-has P (suc n) x d h k zero = h
-repeat-has P (suc n) x d h k (suc i) = repeat-has P n x d h k i
 
 -- a place past the end of a list holds what stands there
 pub past-reads : {A : Type 0} (l : List A) (i : ℕ) (d : A) → length l ≤ i → getD l i d ≡ d

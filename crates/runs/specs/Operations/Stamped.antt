@@ -1,0 +1,275 @@
+-- A message is stamped when it is sent, of any sound tables: an ask and a tell leave theirs with home's clock after the step,
+-- and a phase 1 message that is delivered away from home is answered with the clock of its station after the step. Assumes nothing.
+use Prim.Native.Nat.{ℕ, _%_, _<_, _≤_}
+use native.Mathlib.Omega.{arith}
+use mathlib.Core.Path.{_≡_, refl, sym, ap, _∙_, subst, subst₂}
+use mathlib.Core.Logic.{_≢_}
+use mathlib.Core.Bool.{true, false}
+use borrow.Author.Tests.{ltb-false, ne-eqb}
+use Rattle.rules.specs.LoopsLaws.{not-false}
+use Rattle.rules.specs.Tables.{siteAt, passageAt, visitAt, messageAt, slotOf}
+use Rattle.rules.specs.Answers.{isAccepted, answerValue, firstOf}
+use Rattle.rules.specs.AnswersLaws.{accepted-fine, accepted-value, settle-accepted}
+use Rattle.rules.specs.Parts.{isEmpty, nextClock, askedVisit, answerMessage}
+use Rattle.rules.specs.Rounds.{sentOut, askBody, askChecks, askDone, askOf, tellBody, tellChecks, tellDone, tellOf}
+use Rattle.rules.specs.Calls.{mailClock, atHome, phaseOneDone, askedAt, deliverPhaseOneOf, deliverBodyOf}
+use Rattle.rules.specs.Machine.{lookOf, placesOf, decideOf, stored, stepOf}
+use Rattle.rules.specs.RangesLaws.{placed-places}
+use Rattle.rules.specs.StoredLaws.{site-after-stored, visit-after-stored, message-after-stored}
+use Rattle.rules.specs.SettledLaws.{delivered-named}
+use Rattle.runs.specs.Types.{Site, Visit, Asked, Body, Message, Tables, Step, Places, Seen, Decision}
+use Rattle.runs.specs.Walk.Steps.{placesAt, seenAt}
+use Rattle.runs.specs.Walk.Sound.{Sound}
+use Rattle.runs.specs.Operations.Single.{decisionAt, accepted-seen, decision-accepted, single-answer, single-stored}
+
+-- in this message slot stands a message with this body, from this site to that one, for this handle, stamped with its sender's clock
+pub record Stamped (t : Tables) (place : ℕ) (says : Body) (from to h : ℕ) : Type 0 where
+  pub place-below : place < 32
+  pub body : messageAt t place .body ≡ says
+  pub source : messageAt t place .source ≡ from
+  pub destination : messageAt t place .destination ≡ to
+  pub handle : messageAt t place .handle ≡ h
+  pub stamp : messageAt t place .stamp ≡ siteAt t from .clock
+
+-- ---- what home sends
+
+-- a step of a handle whose answer is a message slot, and which sends a message from home
+module _ (t : Tables) (step : Step) (h site : ℕ) (body : Body) (z : Sound t)
+    (lies : placesAt t step .site ≡ passageAt t (slotOf h) .home % 8)
+    (slot : placesAt t step .slot ≡ slotOf h)
+    (home : passageAt t (slotOf h) .home ≤ 7)
+    (left : stepOf t step .tables ≡ stored t (placesAt t step) (sentOut body h site (nextClock (seenAt t step .site)) (seenAt t step))) where
+  sent-stamped : Stamped (stepOf t step .tables) (placesAt t step .message) body (passageAt t (slotOf h) .home) site h
+  sent-stamped =
+      let at : placesAt t step .site ≡ passageAt t (slotOf h) .home = lies ∙ (omega arith) in
+      let m : messageAt (stepOf t step .tables) (placesAt t step .message)
+      ≡ sentOut body h site (nextClock (seenAt t step .site)) (seenAt t step) .message =
+      ap (λ (x : Tables). messageAt x (placesAt t step .message)) left
+      ∙ message-after-stored t (placesAt t step) _ (z .sized) (placed-places t (lookOf step)) in
+      let s : siteAt (stepOf t step .tables) (placesAt t step .site)
+      ≡ sentOut body h site (nextClock (seenAt t step .site)) (seenAt t step) .site =
+      ap (λ (x : Tables). siteAt x (placesAt t step .site)) left
+      ∙ site-after-stored t (placesAt t step) _ (z .sized) (placed-places t (lookOf step)) in
+      record {
+        place-below = placed-places t (lookOf step) .message;
+        body = ap (λ (x : Message). x .body) m;
+        source = ap (λ (x : Message). x .source) m ∙ ap (λ (p : ℕ). passageAt t p .home) slot;
+        destination = ap (λ (x : Message). x .destination) m;
+        handle = ap (λ (x : Message). x .handle) m;
+        stamp =
+            ap (λ (x : Message). x .stamp) m ∙ ap (λ (x : Site). x .clock) (sym s)
+            ∙ ap (λ (x : ℕ). siteAt (stepOf t step .tables) x .clock) at;
+      }
+
+module _ (t : Tables) (h site : ℕ) (z : Sound t) (a : isAccepted (stepOf t (Step.Ask h site) .answer) ≡ true) where
+  ask-checked : isAccepted (firstOf (askChecks h site (seenAt t (Step.Ask h site))) (placesAt t (Step.Ask h site) .message)) ≡ true
+  unfolding decideOf askOf
+  ask-checked = decision-accepted t (Step.Ask h site) a
+
+  ask-answered : answerValue (stepOf t (Step.Ask h site) .answer) ≡ placesAt t (Step.Ask h site) .message
+  unfolding decideOf askOf
+  ask-answered =
+      ap
+      answerValue
+      (single-answer t (Step.Ask h site) refl a ∙ accepted-value (askChecks h site (seenAt t (Step.Ask h site))) _ ask-checked)
+
+  -- the message slot that an accepted ask answers was empty
+  pub asked-into-empty : isEmpty (messageAt t (answerValue (stepOf t (Step.Ask h site) .answer)) .body) ≡ true
+  asked-into-empty =
+      rw ask-answered (not-false _ (accepted-fine (askChecks h site (seenAt t (Step.Ask h site))) _ ask-checked .room))
+
+  -- an accepted ask leaves there the phase 1 message of the passage's round, from home to the site that it names, with home's clock after it
+  pub stamped-when-asked :
+      Stamped
+      (stepOf t (Step.Ask h site) .tables)
+      (answerValue (stepOf t (Step.Ask h site) .answer))
+      (askBody (passageAt t (slotOf h) .round))
+      (passageAt t (slotOf h) .home)
+      site
+      h
+  unfolding decideOf askOf placesOf
+  stamped-when-asked =
+      rw
+      ask-answered
+      (sent-stamped t (Step.Ask h site) h site (askBody (passageAt t (slotOf h) .round)) z refl refl
+      (accepted-seen t (Step.Ask h site) a .passage .home)
+      (single-stored t (Step.Ask h site) refl a
+      ∙ ap
+      (stored t (placesAt t (Step.Ask h site)))
+      (settle-accepted (askDone h site (placesAt t (Step.Ask h site) .message) (seenAt t (Step.Ask h site))) (seenAt t (Step.Ask h site)) ask-checked)))
+
+module _ (t : Tables) (h site : ℕ) (z : Sound t) (a : isAccepted (stepOf t (Step.Tell h site) .answer) ≡ true) where
+  tell-checked : isAccepted (firstOf (tellChecks h site (seenAt t (Step.Tell h site))) (placesAt t (Step.Tell h site) .message)) ≡ true
+  unfolding decideOf tellOf
+  tell-checked = decision-accepted t (Step.Tell h site) a
+
+  tell-answered : answerValue (stepOf t (Step.Tell h site) .answer) ≡ placesAt t (Step.Tell h site) .message
+  unfolding decideOf tellOf
+  tell-answered =
+      ap
+      answerValue
+      (single-answer t (Step.Tell h site) refl a ∙ accepted-value (tellChecks h site (seenAt t (Step.Tell h site))) _ tell-checked)
+
+  -- the message slot that an accepted tell answers was empty
+  pub told-into-empty : isEmpty (messageAt t (answerValue (stepOf t (Step.Tell h site) .answer)) .body) ≡ true
+  told-into-empty =
+      rw tell-answered (not-false _ (accepted-fine (tellChecks h site (seenAt t (Step.Tell h site))) _ tell-checked .room))
+
+  -- an accepted tell leaves there the phase 2 message of the passage's round, from home to the site that it names, with home's clock after it
+  pub stamped-when-told :
+      Stamped
+      (stepOf t (Step.Tell h site) .tables)
+      (answerValue (stepOf t (Step.Tell h site) .answer))
+      (tellBody (passageAt t (slotOf h) .round))
+      (passageAt t (slotOf h) .home)
+      site
+      h
+  unfolding decideOf tellOf placesOf
+  stamped-when-told =
+      rw
+      tell-answered
+      (sent-stamped t (Step.Tell h site) h site (tellBody (passageAt t (slotOf h) .round)) z refl refl
+      (accepted-seen t (Step.Tell h site) a .passage .home)
+      (single-stored t (Step.Tell h site) refl a
+      ∙ ap
+      (stored t (placesAt t (Step.Tell h site)))
+      (settle-accepted (tellDone h site (placesAt t (Step.Tell h site) .message) (seenAt t (Step.Tell h site))) (seenAt t (Step.Tell h site)) tell-checked)))
+
+-- ---- what a station answers
+
+module _ (t : Tables) (m n : ℕ) (asked : Asked) (z : Sound t) (a : isAccepted (stepOf t (Step.Deliver m) .answer) ≡ true)
+    (b : messageAt t m .body ≡ Body.PhaseOne n asked) where
+  abbrev At : Places
+  At = placesAt t (Step.Deliver m)
+
+  abbrev Saw : Seen
+  Saw = seenAt t (Step.Deliver m)
+
+  mail-below : m < 32
+  unfolding placesOf decideOf
+  mail-below =
+      let l : m ≤ 31 = ltb-false 31 m (delivered-named (messageAt t (m % 32) .body) m Saw (decision-accepted t (Step.Deliver m) a)) in omega arith
+
+  -- the delivery looks at the message slot that it names
+  mail-here : m % 32 ≡ m
+  mail-here = let l : m < 32 = mail-below in omega arith
+
+  decided : decisionAt t (Step.Deliver m) ≡ deliverPhaseOneOf m n asked Saw
+  unfolding placesOf decideOf deliverBodyOf
+  decided = rw (mail-here, b)
+
+  checked : isAccepted (phaseOneDone m n asked Saw .answer) ≡ true
+  unfolding deliverPhaseOneOf
+  checked = rw decided at (decision-accepted t (Step.Deliver m) a)
+
+  -- at the message's destination, for the slot that its handle names
+  pub asked-at-site : At .site ≡ messageAt t m .destination
+  unfolding placesOf
+  asked-at-site =
+      let l : messageAt t (m % 32) .destination ≤ 7 = accepted-seen t (Step.Deliver m) a .message .destination in
+      rw mail-here (rw mail-here at (below l))
+    where
+      below : {x : ℕ} → x ≤ 7 → x % 8 ≡ x
+      below l = omega arith
+
+  pub asked-at-slot : At .slot ≡ slotOf (messageAt t m .handle)
+  unfolding placesOf
+  asked-at-slot = rw mail-here
+
+  -- what an accepted delivery of a phase 1 message leaves is one store
+  pub asked-left : stepOf t (Step.Deliver m) .tables ≡ stored t At (askedAt n asked (mailClock Saw) Saw)
+  unfolding deliverPhaseOneOf
+  asked-left =
+      single-stored t (Step.Deliver m) refl a
+      ∙ ap (λ (d : Decision). stored t At (d .left)) decided
+      ∙ ap (stored t At) (settle-accepted (phaseOneDone m n asked Saw) Saw checked)
+
+  asked-round : (x : Asked) (c : ℕ) (v : Visit) → askedVisit x n c v .round ≡ n
+  asked-round (Asked.Refresh r) c v = refl
+  asked-round Asked.Terminate c v = refl
+  asked-round Asked.Prepare c v = refl
+
+  -- the visit as it is left, by which the station answers
+  abbrev Left : Visit
+  Left = visitAt (stepOf t (Step.Deliver m) .tables) (messageAt t m .destination) (slotOf (messageAt t m .handle))
+
+  pub asked-visit : Left ≡ askedVisit asked n (mailClock Saw) (Saw .visit)
+  asked-visit =
+      subst₂
+      (λ (x y : ℕ). visitAt (stepOf t (Step.Deliver m) .tables) x y ≡ askedVisit asked n (mailClock Saw) (Saw .visit))
+      asked-at-site
+      asked-at-slot
+      (ap (λ (u : Tables). visitAt u (At .site) (At .slot)) asked-left
+      ∙ visit-after-stored t At (askedAt n asked (mailClock Saw) Saw) (z .sized) (placed-places t (lookOf (Step.Deliver m))))
+
+  asked-clock : siteAt (stepOf t (Step.Deliver m) .tables) (messageAt t m .destination) .clock ≡ mailClock Saw
+  asked-clock =
+      subst
+      (λ (x : ℕ). siteAt (stepOf t (Step.Deliver m) .tables) x .clock ≡ mailClock Saw)
+      asked-at-site
+      (ap (λ (u : Tables). siteAt u (At .site) .clock) asked-left
+      ∙ ap
+      (λ (x : Site). x .clock)
+      (site-after-stored t At (askedAt n asked (mailClock Saw) Saw) (z .sized) (placed-places t (lookOf (Step.Deliver m)))))
+
+  module _ (away : messageAt t m .destination ≢ passageAt t (slotOf (messageAt t m .handle)) .home) where
+    away-seen : atHome Saw ≡ false
+    unfolding placesOf
+    away-seen = rw mail-here (ne-eqb _ _ away)
+
+    mail-place : At .message ≡ m
+    unfolding placesOf
+    mail-place = mail-here
+
+    reply-sent :
+        askedAt n asked (mailClock Saw) Saw .message
+        ≡ answerMessage
+        (askedVisit asked n (mailClock Saw) (Saw .visit))
+        (messageAt t m .destination)
+        (passageAt t (slotOf (messageAt t m .handle)) .home)
+        (messageAt t m .handle)
+        (mailClock Saw)
+    unfolding placesOf
+    reply-sent = rw (away-seen, mail-here)
+
+    replied :
+        messageAt (stepOf t (Step.Deliver m) .tables) m
+        ≡ answerMessage
+        (askedVisit asked n (mailClock Saw) (Saw .visit))
+        (messageAt t m .destination)
+        (passageAt t (slotOf (messageAt t m .handle)) .home)
+        (messageAt t m .handle)
+        (mailClock Saw)
+    replied =
+        subst (λ (x : ℕ). messageAt (stepOf t (Step.Deliver m) .tables) x ≡ askedAt n asked (mailClock Saw) Saw .message) mail-place
+        (ap (λ (u : Tables). messageAt u (At .message)) asked-left
+        ∙ message-after-stored t At (askedAt n asked (mailClock Saw) Saw) (z .sized) (placed-places t (lookOf (Step.Deliver m))))
+        ∙ reply-sent
+
+    -- an accepted delivery of a phase 1 message away from its passage's home leaves in that message slot the answer:
+    -- its number, and the calls received and the quiesce time of the visit as it is left, from the station to home, with the station's clock after it
+    pub stamped-when-answered :
+        Stamped
+        (stepOf t (Step.Deliver m) .tables)
+        m
+        (Body.Answer n (Left .received) (Left .quiesce))
+        (messageAt t m .destination)
+        (passageAt t (slotOf (messageAt t m .handle)) .home)
+        (messageAt t m .handle)
+    stamped-when-answered =
+        record {
+          place-below = mail-below;
+          body = ap (λ (x : Message). x .body) replied ∙ says;
+          source = ap (λ (x : Message). x .source) replied;
+          destination = ap (λ (x : Message). x .destination) replied;
+          handle = ap (λ (x : Message). x .handle) replied;
+          stamp = ap (λ (x : Message). x .stamp) replied ∙ sym asked-clock;
+        }
+      where
+        says :
+            Body.Answer
+            (askedVisit asked n (mailClock Saw) (Saw .visit) .round)
+            (askedVisit asked n (mailClock Saw) (Saw .visit) .received)
+            (askedVisit asked n (mailClock Saw) (Saw .visit) .quiesce)
+            ≡ Body.Answer n (Left .received) (Left .quiesce)
+        says = rw (asked-visit, asked-round asked (mailClock Saw) (Saw .visit))

@@ -1,0 +1,415 @@
+-- What a crash strikes, what a sweep takes, and what a terminate unmarks, of any sound tables.
+-- The idea: a crash and a sweep come to each slot once, and until then its passage and its visit there are as they were. Assumes nothing.
+use Prim.Native.Nat.{ℕ, suc, _%_, _<_, _≤_}
+use native.Mathlib.Omega.{arith}
+use native.Mathlib.Nat.{ne-of-lt}
+use mathlib.Core.Path.{_≡_, refl, sym, ap, _∙_, subst, subst₂}
+use mathlib.Core.Logic.{_≢_, ⊎-elim, _⊎_, inl, inr}
+use mathlib.Core.Bool.{Bool, true, false, cond, not, _||_, false≢true}
+use borrow.Author.Tests.{ltb-false, leb-false, eq-eqb}
+use Rattle.rules.specs.declared.looking.Trip.{Trip}
+use Rattle.rules.specs.LoopsLaws.{either}
+use Rattle.rules.specs.Tables.{siteAt, passageAt, visitAt, messageAt, slotOf}
+use Rattle.rules.specs.Answers.{isAccepted}
+use Rattle.rules.specs.AnswersLaws.{accepted-fine, settle-accepted}
+use Rattle.rules.specs.Parts.{isRunning, quieted, whereThere}
+use Rattle.rules.specs.Stations.{sweepChecks, sweepDone, sweepOf, isSweepable, isSwept, sweptSlot, crashChecks, crashDone, crashOf, losesHome, crashedSlot}
+use Rattle.rules.specs.Rounds.{openOf, terminateOf}
+use Rattle.rules.specs.Machine.{lookOf, placesOf, seenOf, decideOf, headOf, tripSite, tripPlaces, turnSeen, turnOf, stepOf}
+use Rattle.rules.specs.RangesLaws.{placed-places, placed-trip}
+use Rattle.rules.specs.StoredLaws.{turn-stored, visit-place-same, site-after-stored, passage-after-stored, passage-after-stored-other, visit-after-stored, visit-after-stored-other}
+use Rattle.rules.specs.Views.{settled, settled-accepted}
+use Rattle.runs.specs.Types.{Site, Phase, Status, Passage, Visit, Asked, Body, Tables, Step, Seen, Outcome, Found}
+use Rattle.runs.specs.Walk.Plain.{when-true}
+use Rattle.runs.specs.Walk.Put.{same-or-other}
+use Rattle.runs.specs.Walk.Steps.{placesAt, seenAt, turnsOf, head-accepted}
+use Rattle.runs.specs.Walk.Sound.{Sound, sound-accepted-has}
+use Rattle.runs.specs.Walk.Clocks.{turned-site}
+use Rattle.runs.specs.Promises.Promised.{stored-has}
+use Rattle.runs.specs.Promises.Standing.{passage-has}
+use Rattle.runs.specs.Operations.Single.{accepted-seen, decision-accepted, single-stored}
+use Rattle.runs.specs.Operations.Stamped.{asked-visit}
+
+-- ---- one slot of a step that goes through them all: its turn sees its passage and its visit as they were before the step
+
+module _ (trip : Trip) (p : ℕ) (slot : p < 16) where
+  -- the station that is gone through
+  abbrev Station : ℕ
+  Station = tripSite trip % 8
+
+  turn-site :
+      (n : ℕ) (o : Outcome) → n < 16 → Sound (o .tables) → siteAt (turnOf trip n o .tables) Station ≡ siteAt (o .tables) Station
+  turn-site n o i z =
+      rw
+      (turn-stored trip n o)
+      (site-after-stored (o .tables) (tripPlaces trip n) _ (z .sized) (placed-trip trip n i) ∙ turned-site trip n (seenOf (o .tables) (tripPlaces trip n)))
+
+  turn-passage-other : (n : ℕ) (o : Outcome) → n ≢ p → passageAt (turnOf trip n o .tables) p ≡ passageAt (o .tables) p
+  turn-passage-other n o m =
+      rw (turn-stored trip n o) (passage-after-stored-other (o .tables) (tripPlaces trip n) _ p (λ e. m (sym e)))
+
+  turn-visit-other :
+      (n : ℕ) (o : Outcome) → n < 16 → n ≢ p → visitAt (turnOf trip n o .tables) Station p ≡ visitAt (o .tables) Station p
+  turn-visit-other n o i m =
+      rw
+      (turn-stored trip n o)
+      (visit-after-stored-other
+      (o .tables)
+      (tripPlaces trip n)
+      _
+      Station
+      p
+      (λ e. m (sym (visit-place-same Station p Station n slot i e .1))))
+
+  turn-passage-own :
+      (o : Outcome) → Sound (o .tables) → passageAt (turnOf trip p o .tables) p ≡ turnSeen trip p (seenOf (o .tables) (tripPlaces trip p)) .passage
+  turn-passage-own o z =
+      rw (turn-stored trip p o) (passage-after-stored (o .tables) (tripPlaces trip p) _ (z .sized) (placed-trip trip p slot))
+
+  turn-visit-own :
+      (o : Outcome) → Sound (o .tables) → visitAt (turnOf trip p o .tables) Station p ≡ turnSeen trip p (seenOf (o .tables) (tripPlaces trip p)) .visit
+  turn-visit-own o z =
+      rw (turn-stored trip p o) (visit-after-stored (o .tables) (tripPlaces trip p) _ (z .sized) (placed-trip trip p slot))
+
+  -- c, x and v are the station, the slot's passage and its visit there before the turns; Q is what the slot's own turn brings about
+  module _ (c : Site) (x : Passage) (v : Visit) (Q : Passage → Visit → Type 0)
+      (own :
+      (seen : Seen) → seen .site ≡ c → seen .passage ≡ x → seen .visit ≡ v
+      → Q (turnSeen trip p seen .passage) (turnSeen trip p seen .visit)) where
+    record Through (n : ℕ) (u : Tables) : Type 0 where
+      station : siteAt u Station ≡ c
+      place : ((p < n) × Q (passageAt u p) (visitAt u Station p)) ⊎ ((n ≤ p) × ((passageAt u p ≡ x) × (visitAt u Station p ≡ v)))
+
+    through-turn : (n : ℕ) (o : Outcome) → n < 16 → Sound (o .tables) → Through n (o .tables) → Through (suc n) (turnOf trip n o .tables)
+    through-turn n o i z k =
+        record {
+          station = turn-site n o i z ∙ k .station;
+          place = ⊎-elim (λ g. inl (been g)) (λ g. yet g (same-or-other n p)) (k .place);
+        }
+      where
+        been :
+            (p < n) × Q (passageAt (o .tables) p) (visitAt (o .tables) Station p)
+            → (p < suc n) × Q (passageAt (turnOf trip n o .tables) p) (visitAt (turnOf trip n o .tables) Station p)
+        been (j, q) =
+            let m : n ≢ p = λ e. absurd (ne-of-lt j (sym e)) in
+            (omega arith, rw (turn-passage-other n o m, turn-visit-other n o i m) q)
+
+        yet :
+            (n ≤ p) × ((passageAt (o .tables) p ≡ x) × (visitAt (o .tables) Station p ≡ v)) → (n ≡ p) ⊎ (n ≢ p)
+            → ((p < suc n) × Q (passageAt (turnOf trip n o .tables) p) (visitAt (turnOf trip n o .tables) Station p))
+            ⊎ ((suc n ≤ p) × ((passageAt (turnOf trip n o .tables) p ≡ x) × (visitAt (turnOf trip n o .tables) Station p ≡ v)))
+        yet (j, (a, b)) (inl e) =
+            inl (
+              omega arith,
+              subst
+                  (λ (y : ℕ). Q (passageAt (turnOf trip y o .tables) p) (visitAt (turnOf trip y o .tables) Station p))
+                  (sym e)
+                  (rw (turn-passage-own o z, turn-visit-own o z) (own (seenOf (o .tables) (tripPlaces trip p)) (k .station) a b)),
+            )
+        yet (j, (a, b)) (inr m) = inr (omega (arith, m), (turn-passage-other n o m ∙ a, turn-visit-other n o i m ∙ b))
+
+-- the own store of such a step moves the clock and leaves every passage and every visit
+module _ (t : Tables) (step : Step) (z : Sound t)
+    (stays :
+    (found : Found) (seen : Seen)
+    → (decideOf step found seen .left .passage ≡ seen .passage) × (decideOf step found seen .left .visit ≡ seen .visit)) where
+  head-passage : (p : ℕ) → passageAt (headOf t step .tables) p ≡ passageAt t p
+  unfolding headOf
+  head-passage p =
+      passage-has
+      (λ x. x ≡ passageAt t p)
+      t
+      (placesAt t step)
+      _
+      (z .sized)
+      (placed-places t (lookOf step))
+      p
+      (λ b. stays _ (seenAt t step) .0 ∙ ap (passageAt t) (sym b))
+      refl
+
+  head-visit : (s p : ℕ) → p < 16 → visitAt (headOf t step .tables) s p ≡ visitAt t s p
+  unfolding headOf
+  head-visit s p slot =
+      stored-has
+      (λ v. v ≡ visitAt t s p)
+      t
+      (placesAt t step)
+      _
+      (z .sized)
+      (placed-places t (lookOf step))
+      s
+      p
+      slot
+      (λ a b. stays _ (seenAt t step) .1 ∙ subst₂ (λ (x y : ℕ). visitAt t x y ≡ visitAt t s p) a b refl)
+      refl
+
+  -- so what a slot's own turn brings about, from the passage and the visit before the step and the station after it, holds after the step
+  module _ (a : isAccepted (stepOf t step .answer) ≡ true) (many : turnsOf t step ≡ 16) where
+    abbrev At : ℕ
+    At = tripSite (lookOf step .trip) % 8
+
+    station-after : siteAt (stepOf t step .tables) At ≡ siteAt (headOf t step .tables) At
+    station-after =
+        sound-accepted-has
+        t
+        step
+        z
+        (λ n u. siteAt u At ≡ siteAt (headOf t step .tables) At)
+        (λ n o i y k. turn-site (lookOf step .trip) 0 (omega arith) n o i y ∙ k)
+        (λ e. refl)
+        a
+
+    slot-after :
+        (p : ℕ) → p < 16 → (Q : Passage → Visit → Type 0)
+        → ((seen : Seen) → seen .site ≡ siteAt (stepOf t step .tables) At → seen .passage ≡ passageAt t p → seen .visit ≡ visitAt t At p
+        → Q (turnSeen (lookOf step .trip) p seen .passage) (turnSeen (lookOf step .trip) p seen .visit))
+        → Q (passageAt (stepOf t step .tables) p) (visitAt (stepOf t step .tables) At p)
+    slot-after p slot Q own =
+        ⊎-elim
+        (λ g. g .1)
+        (λ g. let i : 16 ≤ p = rw many at (g .0) in absurd (omega arith))
+        (through .place)
+      where
+        through :
+            Through
+            (lookOf step .trip)
+            p
+            slot
+            (siteAt (headOf t step .tables) At)
+            (passageAt t p)
+            (visitAt t At p)
+            Q
+            (λ seen e f g. own seen (e ∙ sym station-after) f g)
+            (turnsOf t step)
+            (stepOf t step .tables)
+        through =
+            sound-accepted-has
+            t
+            step
+            z
+            (Through
+            (lookOf step .trip)
+            p
+            slot
+            (siteAt (headOf t step .tables) At)
+            (passageAt t p)
+            (visitAt t At p)
+            Q
+            (λ seen e f g. own seen (e ∙ sym station-after) f g))
+            (through-turn
+            (lookOf step .trip)
+            p
+            slot
+            (siteAt (headOf t step .tables) At)
+            (passageAt t p)
+            (visitAt t At p)
+            Q
+            (λ seen e f g. own seen (e ∙ sym station-after) f g))
+            (λ e. record { station = refl; place = inr (omega arith, (head-passage p, head-visit At p slot)) })
+            a
+
+-- ---- crashes
+
+-- a visit that a crash has struck: it is there, dead and unprepared, and its quiesce time is not after this clock
+pub record Dead (clock : ℕ) (v : Visit) : Type 0 where
+  pub there : v .there ≡ true
+  pub dead : v .dead ≡ true
+  pub prepared : v .prepared ≡ false
+  pub quiesced : v .quiesce ≤ clock
+
+-- what a crash of the station does to a slot: to its unprepared visit there, and to its running passage whose home the station is
+pub record Struck (before after : Tables) (s p : ℕ) : Type 0 where
+  pub unprepared :
+      visitAt before s p .there ≡ true → visitAt before s p .prepared ≡ false → Dead (siteAt after s .clock) (visitAt after s p)
+  pub aborted : isRunning (passageAt before p .status) ≡ true → passageAt before p .home ≡ s → passageAt after p .status ≡ Status.Aborted
+  pub phaseless : isRunning (passageAt before p .status) ≡ true → passageAt before p .home ≡ s → passageAt after p .round .phase ≡ Phase.None
+  pub homeless :
+      isRunning (passageAt before p .status) ≡ true → passageAt before p .home ≡ s → visitAt before s p .there ≡ true
+      → Dead (siteAt after s .clock) (visitAt after s p)
+
+-- what a crash does: the station is one of the eight and is down after it, and every slot is struck
+pub record Strikes (before after : Tables) (s : ℕ) : Type 0 where
+  pub station-below : s < 8
+  pub down : siteAt after s .up ≡ false
+  pub slots : (p : ℕ) → p < 16 → Struck before after s p
+
+-- a visit that is there and is struck
+quieted-dead : (v : Visit) (clock : ℕ) (hit : Bool) → v .there ≡ true → hit ≡ true → Dead clock (whereThere v (cond hit (quieted v clock false true) v))
+quieted-dead v clock hit e h =
+    when-true
+    (Dead clock)
+    (v .there)
+    _
+    v
+    e
+    (when-true (Dead clock) hit (quieted v clock false true) v h (record { there = e; dead = refl; prepared = refl; quiesced = omega arith }))
+
+-- a passage that loses its home
+loses-home : (s : ℕ) (p : Passage) → isRunning (p .status) ≡ true → p .home ≡ s → losesHome s p ≡ true
+loses-home s p r e = rw (r, eq-eqb (p .home) s e)
+
+module _ (t : Tables) (s : ℕ) (z : Sound t) (a : isAccepted (stepOf t (Step.Crash s) .answer) ≡ true) where
+  crash-stays :
+      (found : Found) (seen : Seen)
+      → (decideOf (Step.Crash s) found seen .left .passage ≡ seen .passage) × (decideOf (Step.Crash s) found seen .left .visit ≡ seen .visit)
+  unfolding decideOf crashOf
+  crash-stays found seen =
+      settled (λ (x : Seen). (x .passage ≡ seen .passage) × (x .visit ≡ seen .visit)) _ _ seen _ (λ f. (refl, refl)) (refl, refl)
+
+  crash-decided : isAccepted (crashDone s (seenAt t (Step.Crash s)) .answer) ≡ true
+  unfolding headOf decideOf crashOf
+  crash-decided = head-accepted t (Step.Crash s) a
+
+  crash-below : s < 8
+  crash-below =
+      let l : s ≤ 7 = ltb-false 7 s (accepted-fine (crashChecks s (seenAt t (Step.Crash s))) 0 crash-decided .fields) in omega arith
+
+  crash-here : s % 8 ≡ s
+  crash-here = let l : s < 8 = crash-below in omega arith
+
+  crash-many : turnsOf t (Step.Crash s) ≡ 16
+  crash-many = rw (head-accepted t (Step.Crash s) a)
+
+  crash-station : siteAt (stepOf t (Step.Crash s) .tables) (s % 8) .up ≡ false
+  unfolding headOf decideOf crashOf placesOf
+  crash-station =
+      ap (λ (x : Site). x .up)
+      (station-after t (Step.Crash s) z crash-stays a crash-many
+      ∙ site-after-stored t (placesAt t (Step.Crash s)) _ (z .sized) (placed-places t (lookOf (Step.Crash s)))
+      ∙ ap (λ (x : Seen). x .site) (settle-accepted (crashDone s (seenAt t (Step.Crash s))) (seenAt t (Step.Crash s)) crash-decided))
+
+  crash-slot : (p : ℕ) → p < 16 → Struck t (stepOf t (Step.Crash s) .tables) (s % 8) p
+  unfolding crashedSlot
+  crash-slot p slot =
+      record {
+        unprepared = λ e f.
+            slot-after t (Step.Crash s) z crash-stays a crash-many p slot
+            (λ x v. Dead (siteAt (stepOf t (Step.Crash s) .tables) (s % 8) .clock) v)
+            (λ seen c x v.
+            rw
+            (sym c)
+            (quieted-dead
+            (seen .visit)
+            (seen .site .clock)
+            (losesHome s (seen .passage) || not (seen .visit .prepared))
+            (rw v e)
+            (or-true (losesHome s (seen .passage)) (not (seen .visit .prepared)) (rw (v, f)))));
+        aborted = λ r h.
+            slot-after t (Step.Crash s) z crash-stays a crash-many p slot
+            (λ x v. x .status ≡ Status.Aborted)
+            (λ seen c x v. rw (loses-home s (seen .passage) (rw x r) (rw x h ∙ crash-here)));
+        phaseless = λ r h.
+            slot-after t (Step.Crash s) z crash-stays a crash-many p slot
+            (λ x v. x .round .phase ≡ Phase.None)
+            (λ seen c x v. rw (loses-home s (seen .passage) (rw x r) (rw x h ∙ crash-here)));
+        homeless = λ r h e.
+            slot-after t (Step.Crash s) z crash-stays a crash-many p slot
+            (λ x v. Dead (siteAt (stepOf t (Step.Crash s) .tables) (s % 8) .clock) v)
+            (λ seen c x v.
+            rw
+            (sym c)
+            (quieted-dead
+            (seen .visit)
+            (seen .site .clock)
+            (losesHome s (seen .passage) || not (seen .visit .prepared))
+            (rw v e)
+            (rw (loses-home s (seen .passage) (rw x r) (rw x h ∙ crash-here)))));
+      }
+    where
+      or-true : (b c : Bool) → c ≡ true → (b || c) ≡ true
+      or-true true c e = refl
+      or-true false c e = e
+
+  -- an accepted crash takes its station down; every unprepared visit there is dead after it, with a quiesce time that has come,
+  -- and every running passage whose home it is is aborted after it, in no phase, and its visit there dead likewise, prepared or not
+  pub crash-strikes : Strikes t (stepOf t (Step.Crash s) .tables) s
+  crash-strikes =
+      record {
+        station-below = crash-below;
+        down = rw crash-here at crash-station;
+        slots = λ p slot. rw crash-here at (crash-slot p slot);
+      }
+
+-- ---- sweeps
+
+-- a visit that a turn of a sweep leaves there, though a sweep may take it, has its release time after the clock
+left-unreleased :
+    (s p : ℕ) (seen : Seen) → sweptSlot s p seen .visit .there ≡ true → isSweepable (sweptSlot s p seen .visit) ≡ true
+    → seen .site .clock < sweptSlot s p seen .visit .release
+unfolding sweptSlot
+left-unreleased s p seen =
+    ⊎-elim
+    (λ e. rw e (λ there f. absurd (false≢true there)))
+    (λ e. rw e (λ there f. leb-false (seen .visit .release) (seen .site .clock) (rw (there, f) at e)))
+    (either (isSwept seen))
+
+module _ (t : Tables) (s : ℕ) (z : Sound t) (a : isAccepted (stepOf t (Step.Sweep s) .answer) ≡ true) where
+  sweep-stays :
+      (found : Found) (seen : Seen)
+      → (decideOf (Step.Sweep s) found seen .left .passage ≡ seen .passage) × (decideOf (Step.Sweep s) found seen .left .visit ≡ seen .visit)
+  unfolding decideOf sweepOf
+  sweep-stays found seen =
+      settled (λ (x : Seen). (x .passage ≡ seen .passage) × (x .visit ≡ seen .visit)) _ _ seen _ (λ f. (refl, refl)) (refl, refl)
+
+  sweep-decided : isAccepted (sweepDone s (seenAt t (Step.Sweep s)) .answer) ≡ true
+  unfolding headOf decideOf sweepOf
+  sweep-decided = head-accepted t (Step.Sweep s) a
+
+  -- an accepted sweep is of one of the eight stations
+  pub sweep-below : s < 8
+  sweep-below =
+      let l : s ≤ 7 = ltb-false 7 s (accepted-fine (sweepChecks s (seenAt t (Step.Sweep s))) 0 sweep-decided .fields) in omega arith
+
+  sweep-here : s % 8 ≡ s
+  sweep-here = let l : s < 8 = sweep-below in omega arith
+
+  sweep-slot :
+      (p : ℕ) → p < 16 → visitAt (stepOf t (Step.Sweep s) .tables) (s % 8) p .there ≡ true
+      → isSweepable (visitAt (stepOf t (Step.Sweep s) .tables) (s % 8) p) ≡ true
+      → siteAt (stepOf t (Step.Sweep s) .tables) (s % 8) .clock < visitAt (stepOf t (Step.Sweep s) .tables) (s % 8) p .release
+  sweep-slot p slot =
+      slot-after t (Step.Sweep s) z sweep-stays a (rw (head-accepted t (Step.Sweep s) a)) p slot
+      (λ x v. v .there ≡ true → isSweepable v ≡ true → siteAt (stepOf t (Step.Sweep s) .tables) (s % 8) .clock < v .release)
+      (λ seen c x v. rw (sym c) (left-unreleased s p seen))
+
+  -- after an accepted sweep every visit at its station that a sweep may take has its release time after the clock: no other is left there
+  pub sweep-takes :
+      (p : ℕ) → p < 16 → visitAt (stepOf t (Step.Sweep s) .tables) s p .there ≡ true
+      → isSweepable (visitAt (stepOf t (Step.Sweep s) .tables) s p) ≡ true
+      → siteAt (stepOf t (Step.Sweep s) .tables) s .clock < visitAt (stepOf t (Step.Sweep s) .tables) s p .release
+  sweep-takes p slot = rw sweep-here at (sweep-slot p slot)
+
+-- ---- terminates
+
+-- after an accepted delivery of a phase 1 terminate the visit of its slot at its destination is unprepared
+pub terminate-unmarks-there :
+    (t : Tables) (m n : ℕ) → Sound t → isAccepted (stepOf t (Step.Deliver m) .answer) ≡ true
+    → messageAt t m .body ≡ Body.PhaseOne n Asked.Terminate
+    → visitAt (stepOf t (Step.Deliver m) .tables) (messageAt t m .destination) (slotOf (messageAt t m .handle)) .prepared ≡ false
+terminate-unmarks-there t m n z a b = ap (λ (v : Visit). v .prepared) (asked-visit t m n Asked.Terminate z a b)
+
+-- after an accepted terminate the home visit is unprepared
+pub terminate-unmarks :
+    (t : Tables) (h : ℕ) → Sound t → isAccepted (stepOf t (Step.Terminate h) .answer) ≡ true
+    → visitAt (stepOf t (Step.Terminate h) .tables) (passageAt t (slotOf h) .home) (slotOf h) .prepared ≡ false
+unfolding decideOf terminateOf openOf placesOf
+terminate-unmarks t h z a =
+    let l : passageAt t (slotOf h) .home ≤ 7 = accepted-seen t (Step.Terminate h) a .passage .home in
+    let here : passageAt t (slotOf h) .home % 8 ≡ passageAt t (slotOf h) .home = omega arith in
+    subst
+    (λ (x : ℕ). visitAt (stepOf t (Step.Terminate h) .tables) x (slotOf h) .prepared ≡ false)
+    here
+    (ap
+    (λ (u : Tables). visitAt u (passageAt t (slotOf h) .home % 8) (slotOf h) .prepared)
+    (single-stored t (Step.Terminate h) refl a)
+    ∙ ap
+    (λ (v : Visit). v .prepared)
+    (visit-after-stored t (placesAt t (Step.Terminate h)) _ (z .sized) (placed-places t (lookOf (Step.Terminate h))))
+    ∙ settled-accepted
+    (λ (x : Seen). x .visit .prepared ≡ false)
+    _
+    _
+    (seenAt t (Step.Terminate h))
+    _
+    (λ f. refl)
+    (decision-accepted t (Step.Terminate h) a))
