@@ -126,14 +126,15 @@ fourTerminated =
     ∷ Step.Sweep 6 gives 1  -- 213
     ∷ []
 
--- a second terminate; its answer comes home after the home visit, whose R is 14, was swept
+-- a second terminate after the close, and a third while that is open; its answer comes home after the home visit, whose R is 14, was swept
 abbrev pub terminatedAgain : List Line
 terminatedAgain =
     Step.Terminate 8 gives 3  -- clock 7: 18
-    ∷ Step.Ask 8 5 gives 0  -- 19
-    ∷ Step.Deliver 0 gives 0  -- clock 5: 20
-    ∷ Step.Sweep 7 gives 1  -- clock 7: 20
-    ∷ Step.Deliver 0 gives 0  -- 21
+    ∷ Step.Terminate 8 gives 4  -- 19
+    ∷ Step.Ask 8 5 gives 0  -- 20
+    ∷ Step.Deliver 0 gives 0  -- clock 5: 21
+    ∷ Step.Sweep 7 gives 1  -- clock 7: 21
+    ∷ Step.Deliver 0 gives 0  -- 22
     -- stations 6 and 1 have not answered this round
     ∷ Step.Close 8 refusedBy 12
     ∷ []
@@ -167,10 +168,10 @@ roundRows =
 
 abbrev pub terminateRows : List Row
 terminateRows =
-    -- an aborted passage over four stations, terminated twice
+    -- an aborted passage over four stations, terminated three times
     lines (fourCalled ++ fourTerminated ++ terminatedAgain)
-    (clock 7 21 ∷ clock 6 213 ∷ clock 5 20 ∷ clock 1 14 ∷ status 8 Status.Aborted ∷ round 8 3 Phase.One ∷ unvisited 7 8 ∷ unvisited 6 8
-    ∷ visit 5 8 13 150 3 2
+    (clock 7 22 ∷ clock 6 213 ∷ clock 5 21 ∷ clock 1 14 ∷ status 8 Status.Aborted ∷ round 8 4 Phase.One ∷ unvisited 7 8 ∷ unvisited 6 8
+    ∷ visit 5 8 13 150 4 2
     ∷ visit 1 8 14 150 2 1
     ∷ holder 24 Holder.Nobody
     ∷ holder 28 Holder.Nobody
