@@ -218,8 +218,8 @@ ringTold =
     ∷ Step.Retire 13 gives 0
     ∷ []
 
-abbrev pub commits : List Row
-commits =
+abbrev pub commitRows : List Row
+commitRows =
     -- two writes at two stations and one at home are committed and read back; the slot is retired and used again
     lines (crewWrites ++ crewCommits ++ checkReads ++ slotUsedAgain)
     (clock 3 16 ∷ clock 2 15 ∷ clock 7 14 ∷ clock 6 3 ∷ width 29 1000000 ∷ holder 29 (Holder.Slot 9) ∷ before 29 1000000 ∷ width 9 23456
@@ -249,8 +249,8 @@ commits =
     ∷ [])
     ∷ []
 
-abbrev pub counts : List Row
-counts =
+abbrev pub countRows : List Row
+countRows =
     -- five calls to one station, and the commit closes
     lines fiveCalls
     (clock 4 16 ∷ clock 7 15 ∷ width 17 40000 ∷ holder 17 Holder.Nobody ∷ before 17 0 ∷ status 4 Status.Committed ∷ unvisited 4 4 ∷ [])
@@ -271,11 +271,11 @@ counts =
     ∷ []
 
 -- every commit is as document 01 says
-pub commits-hold : map found commits ≡ map wanted commits
+pub commits-hold : map found commitRows ≡ map wanted commitRows
 unfolding found wanted
 commits-hold = refl
 
 -- and every count of calls
-pub counts-hold : map found counts ≡ map wanted counts
+pub counts-hold : map found countRows ≡ map wanted countRows
 unfolding found wanted
 counts-hold = refl

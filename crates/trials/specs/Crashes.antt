@@ -124,8 +124,60 @@ deadInTimeCalls =
     ∷ Step.Deliver 0 refusedBy 8
     ∷ []
 
-abbrev pub crashes : List Row
-crashes =
+-- home 0, slot 3: it is aborted, and then station 1, where it has a visit, goes down
+abbrev pub awayDown : List Line
+awayDown =
+    Step.Begin 0 3 100 200 gives 3  -- clock 0: 1
+    ∷ Step.Invoke 3 0 0 4 0 gives 0  -- 2
+    ∷ Step.Deliver 0 gives 0  -- clock 1: 3
+    ∷ Step.Abort 3 gives 0  -- clock 0: 3
+    ∷ Step.Crash 1 gives 0  -- clock 1: 4
+    ∷ Step.Recover 1 gives 0  -- 5
+    ∷ Step.Invoke 3 1 0 8 0 refusedBy 8
+    ∷ []
+
+-- home 0, slot 1: home goes down while a refresh is in phase 2
+abbrev pub refreshDown : List Line
+refreshDown =
+    Step.Begin 0 1 100 200 gives 1  -- clock 0: 1
+    ∷ Step.Refresh 1 300 310 gives 1  -- 2
+    ∷ Step.Close 1 gives 1  -- 3
+    ∷ Step.Crash 0 gives 0  -- 4
+    ∷ Step.Recover 0 gives 0  -- 5
+    ∷ Step.Prepare 1 refusedBy 5
+    ∷ []
+
+-- home 3, slot 10: an abort while a refresh is in phase 2, and then home goes down; the release time is still to come
+abbrev pub abortedDown : List Line
+abortedDown =
+    Step.Begin 3 10 100 200 gives 10  -- clock 3: 1
+    ∷ Step.Refresh 10 300 310 gives 1  -- 2
+    ∷ Step.Close 10 gives 1  -- 3
+    ∷ Step.Abort 10 gives 0  -- 4
+    ∷ Step.Crash 3 gives 0  -- 5
+    ∷ Step.Recover 3 gives 0  -- 6
+    ∷ Step.Sweep 3 gives 0  -- 7
+    ∷ []
+
+-- home 2, slot 5: home goes down after the close of a commit, and tells station 1 when it is up again
+abbrev pub closedDown : List Line
+closedDown =
+    Step.Begin 2 5 100 200 gives 5  -- clock 2: 1
+    ∷ Step.Invoke 5 2 1 7 770 gives 0  -- 2
+    ∷ Step.Deliver 0 gives 0  -- clock 1: 3
+    ∷ Step.Prepare 5 gives 1  -- clock 2: 3
+    ∷ Step.Ask 5 1 gives 0  -- 4
+    ∷ Step.Deliver 0 gives 0  -- clock 1: 5
+    ∷ Step.Deliver 0 gives 0  -- clock 2: 6
+    ∷ Step.Close 5 gives 2  -- 7
+    ∷ Step.Crash 2 gives 0  -- 8
+    ∷ Step.Recover 2 gives 0  -- 9
+    ∷ Step.Tell 5 1 gives 0  -- 10
+    ∷ Step.Deliver 0 gives 0  -- clock 1: 11
+    ∷ []
+
+abbrev pub crashRows : List Row
+crashRows =
     -- a crash: what stands while the station is down, and then
     lines (stationDown ++ visitDead)
     (clock 2 12 ∷ clock 6 11 ∷ up 6 1 ∷ visit 6 6 4 400 3 1 ∷ dead 6 6 1 ∷ prepared 6 6 0 ∷ visit 2 6 6 600 3 0 ∷ dead 2 6 0
@@ -156,9 +208,21 @@ crashes =
     ∷ [])
     -- a dead visit before its Q
     ∷ linesOn deadInTime deadInTimeCalls (clock 2 0 ∷ clock 4 1 ∷ visit 2 3 500 600 0 0 ∷ dead 2 3 1 ∷ mail 0 1 ∷ [])
+    -- a crash away from home of an aborted passage
+    ∷ lines awayDown
+    (clock 0 3 ∷ clock 1 5 ∷ up 1 1 ∷ status 3 Status.Aborted ∷ visit 1 3 4 200 0 1 ∷ dead 1 3 1 ∷ visit 0 3 3 200 0 0 ∷ dead 0 3 0 ∷ mail 0 0 ∷ [])
+    -- a crash of home in phase 2 of a refresh
+    ∷ lines refreshDown (clock 0 5 ∷ status 1 Status.Aborted ∷ round 1 1 Phase.None ∷ visit 0 1 4 310 1 0 ∷ dead 0 1 1 ∷ [])
+    -- an abort in phase 2 of a refresh, and a crash of home after it
+    ∷ lines abortedDown (clock 3 7 ∷ status 10 Status.Aborted ∷ round 10 1 Phase.None ∷ visit 3 10 4 310 1 0 ∷ dead 3 10 1 ∷ [])
+    -- a crash of home after the close of a commit
+    ∷ lines closedDown
+    (clock 2 10 ∷ clock 1 11 ∷ status 5 Status.Committed ∷ round 5 1 Phase.Two ∷ unvisited 2 5 ∷ unvisited 1 5 ∷ width 7 770
+    ∷ holder 7 Holder.Nobody
+    ∷ [])
     ∷ []
 
 -- every crash is as document 01 says
-pub crashes-hold : map found crashes ≡ map wanted crashes
+pub crashes-hold : map found crashRows ≡ map wanted crashRows
 unfolding found wanted
 crashes-hold = refl

@@ -1,6 +1,7 @@
 -- The second table of cases, a file for each subject, and the claim over all of it.
 pub mod Types
 pub mod Commits
+pub mod Rounds
 pub mod Undone
 pub mod Crashes
 pub mod Mail

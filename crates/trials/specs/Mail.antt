@@ -82,8 +82,26 @@ fullTable =
     ∷ Step.Deliver 17 gives 0  -- clock 0: 37
     ∷ [])
 
-abbrev pub mails : List Row
-mails =
+-- home 4, slot 9: a question, an answer and a word above clock 1,000,000 carry it from station to station
+abbrev pub lateClock : List Line
+lateClock =
+    Step.Begin 4 9 3000000 3000010 gives 9  -- clock 4: 1
+    ∷ Step.Invoke 9 4 0 11 0 gives 0  -- 2
+    ∷ Step.Deliver 0 gives 0  -- clock 2: 3
+    ∷ Step.Tick 4 1000000 gives 1000002
+    ∷ Step.Refresh 9 4000000 4000010 gives 1  -- clock 4: 1,000,003
+    ∷ Step.Ask 9 2 gives 0  -- 1,000,004
+    ∷ Step.Deliver 0 gives 0  -- clock 2: 1,000,005
+    ∷ Step.Tick 2 1 gives 1000006
+    ∷ Step.Deliver 0 gives 0  -- clock 4: 1,000,006
+    ∷ Step.Close 9 gives 2  -- 1,000,007
+    ∷ Step.Tell 9 2 gives 0  -- 1,000,008
+    ∷ Step.Deliver 0 gives 0  -- clock 2: 1,000,009
+    ∷ Step.Tick 2 1 gives 1000010
+    ∷ []
+
+abbrev pub mailRows : List Row
+mailRows =
     -- two calls to one station, one delivered late
     lines
     lateCall
@@ -104,9 +122,11 @@ mails =
     ∷ mail 17 0
     ∷ mail 31 1
     ∷ [])
+    -- a round above clock 1,000,000
+    ∷ lines lateClock (clock 4 1000008 ∷ clock 2 1000010 ∷ visit 2 9 4000000 4000010 1 1 ∷ visit 4 9 4000000 4000010 1 0 ∷ mail 0 0 ∷ [])
     ∷ []
 
 -- every message is as document 01 says
-pub mails-hold : map found mails ≡ map wanted mails
+pub mails-hold : map found mailRows ≡ map wanted mailRows
 unfolding found wanted
 mails-hold = refl

@@ -7,7 +7,7 @@ use mathlib.Core.List.{List, [], _∷_, _++_, map}
 use lib.ListN.{replicate, set}
 use Rattle.rules.specs.Tables.{start, noCounts, noRound, putSite, putPassage, putVisit}
 use Rattle.rules.specs.Record.{recordOfStep}
-use Rattle.rules.specs.Rows.{Row, Line, _gives_, _refusedBy_, runOn, run, accepted, refused, linesOn, lines, clock, status, generation, visit, sent, found, wanted}
+use Rattle.rules.specs.Rows.{Row, Line, _gives_, _refusedBy_, runOn, run, accepted, refused, linesOn, lines, clock, holder, status, generation, visit, unvisited, sent, mail, found, wanted}
 use Rattle.trials.specs.Types.{Holder, Kind, Phase, Status, Tables, Step}
 
 -- ---- 1, byte by byte: "code unknown, or an unnamed field isn't 0"
@@ -108,6 +108,24 @@ onTime =
     ∷ Step.Retire 3 gives 0
     ∷ []
 
+-- ---- which of two: 8 before 10, of home 2, slot 4, for an object that home 1, slot 3, holds; 4 before 5
+
+abbrev pub whichFirst : List Line
+whichFirst =
+    Step.Begin 1 3 100 200 gives 3  -- clock 1: 1
+    ∷ Step.Begin 2 4 10 20 gives 4  -- clock 2: 1
+    ∷ Step.Invoke 3 1 1 15 1500 gives 0  -- clock 1: 2
+    ∷ Step.Invoke 4 2 0 15 0 gives 1  -- clock 2: 2
+    ∷ Step.Deliver 0 gives 0  -- clock 3: 3
+    ∷ Step.Deliver 1 refusedBy 10
+    ∷ Step.Tick 3 6 gives 9
+    -- held and late: the call would come in at 10
+    ∷ Step.Deliver 1 refusedBy 8
+    ∷ Step.Crash 0 gives 0  -- clock 0: 1
+    -- down, and slot 3 is in use
+    ∷ Step.Begin 0 3 100 200 refusedBy 4
+    ∷ []
+
 -- ---- 7, 11 and 20, on tables that are handed in
 
 -- the start, with another clock at a station
@@ -203,8 +221,8 @@ startInPhase =
       generation = 0;
     })
 
-abbrev pub refusals : List Row
-refusals =
+abbrev pub refusalRows : List Row
+refusalRows =
     -- 1 leaves the tables, so the sweep of a clock at 0 moves it to 1
     run strayBytes (replicate 10 (refused 1) ++ (accepted 0 ∷ [])) (clock 3 1 ∷ [])
     -- 2
@@ -213,6 +231,8 @@ refusals =
     ∷ lines wrongStates (clock 6 4 ∷ status 7 Status.Free ∷ generation 7 1 ∷ [])
     -- 8
     ∷ lines onTime (clock 5 20 ∷ clock 0 30 ∷ status 3 Status.Free ∷ generation 3 1 ∷ [])
+    -- 8 and 10, 4 and 5
+    ∷ lines whichFirst (clock 3 9 ∷ clock 0 1 ∷ holder 15 (Holder.Slot 3) ∷ unvisited 3 4 ∷ mail 1 1 ∷ [])
     -- 7
     ∷ linesOn (startAt 4 1999999998) lastClock (clock 4 2000000000 ∷ clock 3 2 ∷ [])
     -- 11
@@ -232,6 +252,6 @@ refusals =
     ∷ []
 
 -- every refusal is as document 01 says
-pub refusals-hold : map found refusals ≡ map wanted refusals
+pub refusals-hold : map found refusalRows ≡ map wanted refusalRows
 unfolding found wanted
 refusals-hold = refl

@@ -4,7 +4,8 @@ use Prim.Native.Nat.{ℕ, _<_}
 use mathlib.Core.Path.{_≡_, refl}
 use mathlib.Core.List.{List, [], _∷_, _++_, map}
 use borrow.Author.Tests.{lt-ltb}
-use lib.ListN.{length}
+use lib.ListN.{length, replicate}
+use Rattle.rules.specs.Loops.{joined}
 use Rattle.rules.specs.Sheet.{sheetMost, sheetAnswer}
 use Rattle.rules.specs.Listing.{spelt, listingOf}
 use Rattle.rules.specs.Rows.{Row, sheet, found, wanted}
@@ -87,14 +88,41 @@ refusedSheet digit = 115 ∷ 104 ∷ 101 ∷ 101 ∷ 116 ∷ 32 ∷ digit ∷ 10
 abbrev pub oneTick : List ℕ
 oneTick = 1 ∷ 3 ∷ 0 ∷ 0 ∷ 0 ∷ 0 ∷ 0 ∷ 0 ∷ 52 ∷ 18 ∷ 0 ∷ 0 ∷ 0 ∷ 0 ∷ 0 ∷ 0 ∷ []
 
-abbrev pub sheets : List Row
-sheets =
+-- tick station 5 by 1,000,000, which is 64 + 256 × 66 + 65,536 × 15
+abbrev pub longTick : List ℕ
+longTick = 1 ∷ 5 ∷ 0 ∷ 0 ∷ 0 ∷ 0 ∷ 0 ∷ 0 ∷ 64 ∷ 66 ∷ 15 ∷ 0 ∷ 0 ∷ 0 ∷ 0 ∷ 0 ∷ []
+
+-- twelve of them, and a distance of 192
+abbrev pub twelveTicks : List ℕ
+twelveTicks = joined (replicate 12 longTick) ++ (192 ∷ 0 ∷ 0 ∷ 0 ∷ 80 ∷ 65 ∷ 83 ∷ 83 ∷ [])
+
+-- the twelve lines; the last three have numbers of eight digits
+abbrev pub twelveLines : List ℕ
+twelveLines =
+    49 ∷ 32 ∷ 48 ∷ 32 ∷ 49 ∷ 48 ∷ 48 ∷ 48 ∷ 48 ∷ 48 ∷ 48 ∷ 10  -- 1 0 1000000
+    ∷ 50 ∷ 32 ∷ 48 ∷ 32 ∷ 50 ∷ 48 ∷ 48 ∷ 48 ∷ 48 ∷ 48 ∷ 48 ∷ 10  -- 2 0 2000000
+    ∷ 51 ∷ 32 ∷ 48 ∷ 32 ∷ 51 ∷ 48 ∷ 48 ∷ 48 ∷ 48 ∷ 48 ∷ 48 ∷ 10  -- 3 0 3000000
+    ∷ 52 ∷ 32 ∷ 48 ∷ 32 ∷ 52 ∷ 48 ∷ 48 ∷ 48 ∷ 48 ∷ 48 ∷ 48 ∷ 10  -- 4 0 4000000
+    ∷ 53 ∷ 32 ∷ 48 ∷ 32 ∷ 53 ∷ 48 ∷ 48 ∷ 48 ∷ 48 ∷ 48 ∷ 48 ∷ 10  -- 5 0 5000000
+    ∷ 54 ∷ 32 ∷ 48 ∷ 32 ∷ 54 ∷ 48 ∷ 48 ∷ 48 ∷ 48 ∷ 48 ∷ 48 ∷ 10  -- 6 0 6000000
+    ∷ 55 ∷ 32 ∷ 48 ∷ 32 ∷ 55 ∷ 48 ∷ 48 ∷ 48 ∷ 48 ∷ 48 ∷ 48 ∷ 10  -- 7 0 7000000
+    ∷ 56 ∷ 32 ∷ 48 ∷ 32 ∷ 56 ∷ 48 ∷ 48 ∷ 48 ∷ 48 ∷ 48 ∷ 48 ∷ 10  -- 8 0 8000000
+    ∷ 57 ∷ 32 ∷ 48 ∷ 32 ∷ 57 ∷ 48 ∷ 48 ∷ 48 ∷ 48 ∷ 48 ∷ 48 ∷ 10  -- 9 0 9000000
+    ∷ 49 ∷ 48 ∷ 32 ∷ 48 ∷ 32 ∷ 49 ∷ 48 ∷ 48 ∷ 48 ∷ 48 ∷ 48 ∷ 48 ∷ 48 ∷ 10  -- 10 0 10000000
+    ∷ 49 ∷ 49 ∷ 32 ∷ 48 ∷ 32 ∷ 49 ∷ 49 ∷ 48 ∷ 48 ∷ 48 ∷ 48 ∷ 48 ∷ 48 ∷ 10  -- 11 0 11000000
+    ∷ 49 ∷ 50 ∷ 32 ∷ 48 ∷ 32 ∷ 49 ∷ 50 ∷ 48 ∷ 48 ∷ 48 ∷ 48 ∷ 48 ∷ 48 ∷ 10  -- 12 0 12000000
+    ∷ []
+
+abbrev pub sheetRows : List Row
+sheetRows =
     -- a heading of five bytes, and a listing of more than twenty lines
     sheet (heading ++ longRecords ++ longTrailer) longListing
     -- a heading alone: 8 bytes and more are taken, and no record is no line
     ∷ sheet (heading ++ (0 ∷ 0 ∷ 0 ∷ 0 ∷ 80 ∷ 65 ∷ 83 ∷ 83 ∷ [])) []
     -- one record and no heading: "1 0 4660"
     ∷ sheet (oneTick ++ (16 ∷ 0 ∷ 0 ∷ 0 ∷ 80 ∷ 65 ∷ 83 ∷ 83 ∷ [])) (49 ∷ 32 ∷ 48 ∷ 32 ∷ 52 ∷ 54 ∷ 54 ∷ 48 ∷ 10 ∷ [])
+    -- twelve ticks of one station
+    ∷ sheet twelveTicks twelveLines
     -- 2: seven bytes
     ∷ sheet (0 ∷ 0 ∷ 0 ∷ 80 ∷ 65 ∷ 83 ∷ 83 ∷ []) (refusedSheet 50)
     -- 3: the mark's last letter is another
@@ -105,10 +133,13 @@ sheets =
     ∷ sheet (oneTick ++ (8 ∷ 0 ∷ 0 ∷ 0 ∷ 80 ∷ 65 ∷ 83 ∷ 83 ∷ [])) (refusedSheet 52)
     -- 4: more than precedes the trailer
     ∷ sheet (oneTick ++ (32 ∷ 0 ∷ 0 ∷ 0 ∷ 80 ∷ 65 ∷ 83 ∷ 83 ∷ [])) (refusedSheet 52)
+    -- 4: 16 and 65,536 more, 16 and 16,777,216 more
+    ∷ sheet (oneTick ++ (16 ∷ 0 ∷ 1 ∷ 0 ∷ 80 ∷ 65 ∷ 83 ∷ 83 ∷ [])) (refusedSheet 52)
+    ∷ sheet (oneTick ++ (16 ∷ 0 ∷ 0 ∷ 1 ∷ 80 ∷ 65 ∷ 83 ∷ 83 ∷ [])) (refusedSheet 52)
     ∷ []
 
 -- every listing is as document 01 says
-pub sheets-hold : map found sheets ≡ map wanted sheets
+pub sheets-hold : map found sheetRows ≡ map wanted sheetRows
 unfolding found wanted
 sheets-hold = refl
 

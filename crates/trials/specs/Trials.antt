@@ -3,12 +3,13 @@
 use mathlib.Core.Path.{_≡_}
 use mathlib.Core.List.{List, _++_, map, map-append}
 use Rattle.rules.specs.Rows.{Row, found, wanted}
-use Rattle.trials.specs.Commits.{commits, counts, commits-hold, counts-hold}
-use Rattle.trials.specs.Undone.{undone, sweeps, undone-hold, sweeps-hold}
-use Rattle.trials.specs.Crashes.{crashes, crashes-hold}
-use Rattle.trials.specs.Mail.{mails, mails-hold}
-use Rattle.trials.specs.Refusals.{refusals, refusals-hold}
-use Rattle.trials.specs.Sheets.{sheets, sheets-hold}
+use Rattle.trials.specs.Commits.{commitRows, countRows, commits-hold, counts-hold}
+use Rattle.trials.specs.Rounds.{roundRows, terminateRows, rounds-hold, terminates-hold}
+use Rattle.trials.specs.Undone.{undoneRows, sweepRows, undone-hold, sweeps-hold}
+use Rattle.trials.specs.Crashes.{crashRows, crashes-hold}
+use Rattle.trials.specs.Mail.{mailRows, mails-hold}
+use Rattle.trials.specs.Refusals.{refusalRows, refusals-hold}
+use Rattle.trials.specs.Sheets.{sheetRows, sheets-hold}
 
 -- two tables that hold are one that holds
 hold-joined :
@@ -18,25 +19,27 @@ hold-joined :
     → map found (a ++ b) ≡ map wanted (a ++ b)
 hold-joined a b ha hb = rw (map-append found a b, map-append wanted a b, ha, hb)
 
--- what stands: commits, counts of calls
-abbrev pub standing : List Row
-standing = commits ++ counts
+-- what stands: commits, counts of calls, rounds over several stations
+abbrev pub standingRows : List Row
+standingRows = commitRows ++ (countRows ++ roundRows)
 
--- what falls: aborts, sweeps, crashes
-abbrev pub falling : List Row
-falling = undone ++ (sweeps ++ crashes)
+-- what falls: aborts, terminates, sweeps, crashes
+abbrev pub fallingRows : List Row
+fallingRows = (undoneRows ++ terminateRows) ++ (sweepRows ++ crashRows)
 
 -- what is said: messages, refusals, listings
-abbrev pub spoken : List Row
-spoken = mails ++ (refusals ++ sheets)
+abbrev pub spokenRows : List Row
+spokenRows = mailRows ++ (refusalRows ++ sheetRows)
 
-abbrev pub trials : List Row
-trials = standing ++ (falling ++ spoken)
+abbrev pub trialRows : List Row
+trialRows = standingRows ++ (fallingRows ++ spokenRows)
 
 -- every row is as document 01 says
-pub trials-hold : map found trials ≡ map wanted trials
+pub trials-hold : map found trialRows ≡ map wanted trialRows
 trials-hold =
-    let stands = hold-joined commits counts commits-hold counts-hold in
-    let falls = hold-joined undone (sweeps ++ crashes) undone-hold (hold-joined sweeps crashes sweeps-hold crashes-hold) in
-    let says = hold-joined mails (refusals ++ sheets) mails-hold (hold-joined refusals sheets refusals-hold sheets-hold) in
-    hold-joined standing (falling ++ spoken) stands (hold-joined falling spoken falls says)
+    let stands = hold-joined commitRows (countRows ++ roundRows) commits-hold (hold-joined countRows roundRows counts-hold rounds-hold) in
+    let undo = hold-joined undoneRows terminateRows undone-hold terminates-hold in
+    let down = hold-joined sweepRows crashRows sweeps-hold crashes-hold in
+    let falls = hold-joined (undoneRows ++ terminateRows) (sweepRows ++ crashRows) undo down in
+    let says = hold-joined mailRows (refusalRows ++ sheetRows) mails-hold (hold-joined refusalRows sheetRows refusals-hold sheets-hold) in
+    hold-joined standingRows (fallingRows ++ spokenRows) stands (hold-joined fallingRows spokenRows falls says)

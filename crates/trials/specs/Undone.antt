@@ -3,7 +3,7 @@
 use mathlib.Core.Path.{_≡_, refl}
 use mathlib.Core.List.{List, [], _∷_, _++_, map}
 use Rattle.trials.specs.Types.{Holder, Phase, Status, Step}
-use Rattle.rules.specs.Rows.{Row, Line, _gives_, _refusedBy_, lines, clock, up, width, holder, before, status, generation, round, visit, unvisited, mail, found, wanted}
+use Rattle.rules.specs.Rows.{Row, Line, _gives_, _refusedBy_, lines, clock, up, width, holder, before, status, generation, round, visit, unvisited, prepared, mail, found, wanted}
 
 -- home 7, slot 0: object 31 is committed at 3,210 mm, by home alone
 abbrev pub firstWidth : List Line
@@ -147,8 +147,33 @@ homeSwept =
     ∷ Step.Retire 1 gives 0
     ∷ []
 
-abbrev pub undone : List Row
-undone =
+-- home 2, slot 14: a write at station 1, which is not asked before the release time has passed there
+abbrev pub unasked : List Line
+unasked =
+    Step.Begin 2 14 10 20 gives 14  -- clock 2: 1
+    ∷ Step.Invoke 14 2 1 6 650 gives 0  -- 2
+    ∷ Step.Deliver 0 gives 0  -- clock 1: 3
+    ∷ Step.Prepare 14 gives 1  -- clock 2: 3
+    ∷ []
+
+abbrev pub sweptUnasked : List Line
+sweptUnasked =
+    Step.Tick 1 50 gives 53
+    ∷ Step.Sweep 1 gives 1  -- clock 1: 54
+    ∷ []
+
+-- station 3 is home of slots 0, 1 and 2
+abbrev pub threeSwept : List Line
+threeSwept =
+    Step.Begin 3 0 10 20 gives 0  -- clock 3: 1
+    ∷ Step.Begin 3 1 10 25 gives 1  -- 2
+    ∷ Step.Begin 3 2 12 30 gives 2  -- 3
+    ∷ Step.Tick 3 50 gives 53
+    ∷ Step.Sweep 3 gives 3  -- 54
+    ∷ []
+
+abbrev pub undoneRows : List Row
+undoneRows =
     -- an abort: two writes over a committed width are undone, and another passage reads that width
     lines
     (firstWidth ++ writesUndone ++ widthReadBack)
@@ -163,8 +188,8 @@ undone =
     (clock 2 408 ∷ clock 5 411 ∷ width 10 0 ∷ holder 10 Holder.Nobody ∷ before 10 0 ∷ generation 1 1 ∷ mail 0 0 ∷ [])
     ∷ []
 
-abbrev pub sweeps : List Row
-sweeps =
+abbrev pub sweepRows : List Row
+sweepRows =
     -- a sweep of two visits
     lines (fourVisits ++ twoSwept)
     (clock 6 2000065 ∷ clock 0 1000064 ∷ width 24 0 ∷ holder 24 Holder.Nobody ∷ width 25 0 ∷ holder 25 Holder.Nobody
@@ -179,14 +204,29 @@ sweeps =
     ∷ lines sweptAway (clock 2 5 ∷ clock 4 204 ∷ status 9 Status.Active ∷ width 18 0 ∷ unvisited 4 9 ∷ [])
     -- a sweep at home, before the close
     ∷ lines homeSwept (clock 6 48 ∷ up 6 0 ∷ status 1 Status.Free ∷ generation 1 1 ∷ width 27 0 ∷ [])
+    -- an unprepared visit of a committing passage
+    ∷ lines (unasked ++ sweptUnasked)
+    (clock 1 54 ∷ clock 2 3 ∷ status 14 Status.Committing ∷ round 14 1 Phase.One ∷ unvisited 1 14 ∷ visit 2 14 3 20 1 0 ∷ prepared 2 14 1
+    ∷ width 6 0
+    ∷ holder 6 Holder.Nobody
+    ∷ [])
+    -- and of one that is aborted after its prepare, at clock 4
+    ∷ lines (unasked ++ (Step.Abort 14 gives 0 ∷ []) ++ sweptUnasked)
+    (clock 1 54 ∷ clock 2 4 ∷ status 14 Status.Aborted ∷ round 14 1 Phase.None ∷ unvisited 1 14 ∷ visit 2 14 3 20 1 0 ∷ prepared 2 14 0
+    ∷ width 6 0
+    ∷ holder 6 Holder.Nobody
+    ∷ [])
+    -- a sweep of three visits
+    ∷ lines threeSwept
+    (clock 3 54 ∷ status 0 Status.Aborted ∷ status 1 Status.Aborted ∷ status 2 Status.Aborted ∷ unvisited 3 0 ∷ unvisited 3 1 ∷ unvisited 3 2 ∷ [])
     ∷ []
 
 -- every undoing is as document 01 says
-pub undone-hold : map found undone ≡ map wanted undone
+pub undone-hold : map found undoneRows ≡ map wanted undoneRows
 unfolding found wanted
 undone-hold = refl
 
 -- and every sweep
-pub sweeps-hold : map found sweeps ≡ map wanted sweeps
+pub sweeps-hold : map found sweepRows ≡ map wanted sweepRows
 unfolding found wanted
 sweeps-hold = refl
