@@ -6,7 +6,7 @@ use mathlib.Core.Path.{_≡_, refl, sym, ap₂, subst}
 use mathlib.Core.Logic.{⊎-elim, _⊎_, inl, inr}
 use mathlib.Core.Bool.{Bool, true, false, cond, not, _&&_, _||_, true≢false, false≢true}
 use lib.Dec.{eqb, ltb}
-use borrow.Author.Tests.{ltb-true, ltb-false, eqb-false}
+use borrow.Author.Tests.{ltb-true, ltb-false, eqb-false, ne-eqb}
 use Rattle.rules.specs.Loops.{everyUpTo, someUpTo, sumUpTo, mostUpTo, firstNext, firstUpTo}
 
 -- ---- truth of tests
@@ -123,6 +123,21 @@ module _ (p : ℕ → Bool) where
           let l : firstUpTo p n ≤ n = first-le n in
           let d : firstUpTo p n ≡ n → ⊥ = eqb-false (firstUpTo p n) n e in
           rw e (before (omega (arith, d)))
+
+  -- one is found below n where there is one
+  pub first-below : (n i : ℕ) → i < n → p i ≡ true → firstUpTo p n < n
+  unfolding firstUpTo
+  first-below zero i h e = absurd (not-suc-le-zero h)
+  first-below (suc n) i h e =
+      ⊎-elim
+      (λ l.
+      let b : firstUpTo p n < n = first-below n i l e in
+      rw (ne-eqb (firstUpTo p n) n (λ q. omega arith)) (omega arith))
+      (λ q.
+      let here : p n ≡ true = subst (λ (k : ℕ). p k ≡ true) q e in
+      let l : firstUpTo p n ≤ n = first-le n in
+      rw here (cond-keeps (λ (k : ℕ). k < suc n) (eqb (firstUpTo p n) n) n (firstUpTo p n) (omega arith) (omega arith)))
+      (below-or-last i n h)
 
 -- ---- sum and largest
 

@@ -1,17 +1,22 @@
--- A committed passage goes on telling: its round is a commit round in phase 2, and every site where it has a visit has answered, so that home may tell it.
+-- A committed passage goes on telling: its round is a commit round in phase 2, and every site where it has a visit has answered,
+-- so that a tell to such a site is accepted where home is up and has room.
 -- The idea: the close of a commit round finds an answer of every site that has seen the passage, and afterwards no visit of it is made. Assumes nothing.
-use Prim.Native.Nat.{ℕ, _<_}
+use Prim.Native.Nat.{ℕ, _+_, _%_, _<_, _≤_, min}
+use native.Mathlib.Omega.{arith}
 use mathlib.Core.Path.{_≡_, refl, sym, ap, _∙_, subst}
-use mathlib.Core.Logic.{⊎-elim, _⊎_, inl, inr}
+use mathlib.Core.Logic.{_≢_, ⊎-elim, _⊎_, inl, inr}
 use mathlib.Core.Bool.{true, false, true≢false, false≢true}
 use mathlib.Core.List.{List}
+use borrow.Author.Tests.{eq-eqb, ne-eqb, le-ltb}
 use Rattle.rules.specs.declared.looking.Trip.{Trip}
-use Rattle.rules.specs.LoopsLaws.{either}
-use Rattle.rules.specs.Tables.{passageAt, visitAt}
-use Rattle.rules.specs.Answers.{isAccepted}
+use Rattle.rules.specs.LoopsLaws.{either, first-at, first-below}
+use Rattle.rules.specs.Limits.{clockMost, handleMost, messageMost}
+use Rattle.rules.specs.Tables.{siteAt, passageAt, visitAt, messageAt, slotOf, generationOf, handleOf}
+use Rattle.rules.specs.Ranges.{inRange}
+use Rattle.rules.specs.Answers.{isAccepted, firstOf}
 use Rattle.rules.specs.Parts.{isFree, isRunning, isActive, isAborted, isEmpty, isClosed, hasAnswered, withAnswer, largestQuiesce, askedOf, askedStatus, toldOf, toldStatus, toldVisit, whereThere}
-use Rattle.rules.specs.Rounds.{roundTold}
-use Rattle.rules.specs.Machine.{lookOf, seenOf, decideOf, foundOf, stored, headOf, tripPlaces, turnSeen, turnOf}
+use Rattle.rules.specs.Rounds.{roundTold, tellOf}
+use Rattle.rules.specs.Machine.{lookOf, lowestEmpty, placesOf, seenOf, decideOf, foundOf, stored, headOf, tripPlaces, turnSeen, turnOf, turnsUpTo, stepInRangeOf, stepOf}
 use Rattle.rules.specs.StoredLaws.{Sized, Placed, turn-stored, visit-place-same, passage-after-stored-other, visit-after-stored-other}
 use Rattle.rules.specs.StartLaws.{started-is-empty}
 use Rattle.rules.specs.RangesLaws.{placed-places, placed-trip}
@@ -22,12 +27,13 @@ use Rattle.runs.specs.Walk.Steps.{placesAt, seenAt, good-after-run}
 use Rattle.runs.specs.Times.View.{View, Ledger, viewOf, noLedger}
 use Rattle.runs.specs.Times.Clauses.{sentFigures, Holds}
 use Rattle.runs.specs.Times.Store.{own-view}
-use Rattle.runs.specs.Times.Ledgers.{headLedgers, turnLedgers}
+use Rattle.runs.specs.Times.Ledgers.{headLedgers, turnLedgers, ledgersOf}
 use Rattle.runs.specs.Kept.Masks.{answered-here, answered-other}
 use Rattle.runs.specs.Kept.Closing.{closing-binding}
 use Rattle.runs.specs.Moves.Definitions.{OpenedFrom, Move, Turn}
 use Rattle.runs.specs.Moves.Laws.{where-is, where-not, turned-unmade}
 use Rattle.runs.specs.Moves.Steps.{move-of, turn-of}
+use Rattle.runs.specs.Promises.Handles.{generation-below}
 use Rattle.runs.specs.Commits.Vow.{Vow}
 use Rattle.runs.specs.Commits.VowLaws.{one-not-two, committed-tells, aborted-not-committed}
 use Rattle.runs.specs.Commits.Pledged.{Pledged, pledged-after-head, pledged-after-turn, pledged-started}
@@ -223,14 +229,9 @@ pub record StillTells (t : Tables) (p : ℕ) : Type 0 where
   pub phase : passageAt t p .round .phase ≡ Phase.Two
   pub answered : (s : ℕ) → visitAt t s p .there ≡ true → hasAnswered (passageAt t p .round) s ≡ true
 
--- in every run: a committed passage is in phase 2 of its commit round, and every site where it has a visit has answered
-pub committed-goes-on-telling :
-    {t₀ : Tables} → Started t₀ → (ss : List Step) (p : ℕ) → p < 16 → passageAt (runOf t₀ ss) p .status ≡ Status.Committed
-    → StillTells (runOf t₀ ss) p
-committed-goes-on-telling {t₀} fresh ss p slot committed =
-    let k = good-after-run headLedgers turnLedgers Telling telling-after-head telling-after-turn t₀ ss (λ q. noLedger) begun in
-    let tells = committed-tells (passageAt (runOf t₀ ss) p) (k .pledged .vows p slot .round) committed in
-    record { kind = tells .0; phase = tells .1; answered = k .answered p slot committed }
+telling-run : {t₀ : Tables} → Started t₀ → (ss : List Step) → Telling (runOf t₀ ss) (ledgersOf t₀ ss)
+unfolding ledgersOf
+telling-run {t₀} fresh ss = good-after-run headLedgers turnLedgers Telling telling-after-head telling-after-turn t₀ ss (λ q. noLedger) begun
   where
     begun : Telling t₀ (λ q. noLedger)
     begun =
@@ -238,3 +239,78 @@ committed-goes-on-telling {t₀} fresh ss p slot committed =
           pledged = pledged-started fresh;
           answered = λ q b c. absurd (true≢false (ap isFree (sym (started-is-empty fresh .free q) ∙ c)));
         }
+
+-- in every run: a committed passage is in phase 2 of its commit round, and every site where it has a visit has answered
+pub committed-goes-on-telling :
+    {t₀ : Tables} → Started t₀ → (ss : List Step) (p : ℕ) → p < 16 → passageAt (runOf t₀ ss) p .status ≡ Status.Committed
+    → StillTells (runOf t₀ ss) p
+committed-goes-on-telling {t₀} fresh ss p slot committed =
+    let k = telling-run fresh ss in
+    let tells = committed-tells (passageAt (runOf t₀ ss) p) (k .pledged .vows p slot .round) committed in
+    record { kind = tells .0; phase = tells .1; answered = k .answered p slot committed }
+
+-- ---- so home may tell it
+
+module _ (t : Tables) (h p s : ℕ) (range : inRange t ≡ true) (slot : slotOf h ≡ p) (named : passageAt t p .generation ≡ generationOf h)
+    (small : h ≤ handleMost) (home : passageAt t p .home < 8) (used : isFree (passageAt t p .status) ≡ false) where
+  -- a tell to a site that has answered in a round in phase 2 is accepted where home is up, its clock has room and a message slot is empty
+  tell-accepted :
+      passageAt t p .round .phase ≡ Phase.Two → hasAnswered (passageAt t p .round) s ≡ true → s < 8 → s ≢ passageAt t p .home
+      → siteAt t (passageAt t p .home) .up ≡ true → siteAt t (passageAt t p .home) .clock + 1 ≤ clockMost
+      → isEmpty (messageAt t (min (lowestEmpty t) messageMost) .body) ≡ true
+      → isAccepted (stepOf t (Step.Tell h s) .answer) ≡ true
+  unfolding stepOf stepInRangeOf turnsUpTo headOf decideOf tellOf placesOf firstOf
+  tell-accepted two answered below away up room empty =
+      let here : s % 8 ≡ s = omega arith in
+      let at : passageAt t p .home % 8 ≡ passageAt t p .home = omega arith in
+      rw (
+        range,
+        le-ltb handleMost h small,
+        le-ltb 7 s (omega arith),
+        slot,
+        at,
+        here,
+        used,
+        eq-eqb _ _ named,
+        up,
+        two,
+        answered,
+        ne-eqb _ _ away,
+        le-ltb clockMost (siteAt t (passageAt t p .home) .clock + 1) room,
+        empty,
+      )
+      refl
+
+-- where a message slot is empty, so is the one that a new message takes
+takes-empty : (t : Tables) (m : ℕ) → m < 32 → isEmpty (messageAt t m .body) ≡ true → isEmpty (messageAt t (min (lowestEmpty t) messageMost) .body) ≡ true
+unfolding lowestEmpty
+takes-empty t m below empty =
+    let l : lowestEmpty t < 32 = first-below (λ k. isEmpty (messageAt t k .body)) 32 m below empty in
+    let e : min (lowestEmpty t) 31 ≡ lowestEmpty t = omega arith in
+    rw e (first-at (λ k. isEmpty (messageAt t k .body)) 32 l)
+
+-- in every run: home may tell every other site where its committed passage has a visit.
+-- The tell is accepted where home is up, its clock is below its most, and some message slot is empty
+pub committed-may-tell :
+    {t₀ : Tables} → Started t₀ → (ss : List Step) (p s m : ℕ) → p < 16 → passageAt (runOf t₀ ss) p .status ≡ Status.Committed
+    → visitAt (runOf t₀ ss) s p .there ≡ true → s ≢ passageAt (runOf t₀ ss) p .home
+    → siteAt (runOf t₀ ss) (passageAt (runOf t₀ ss) p .home) .up ≡ true
+    → siteAt (runOf t₀ ss) (passageAt (runOf t₀ ss) p .home) .clock < clockMost
+    → m < 32 → isEmpty (messageAt (runOf t₀ ss) m .body) ≡ true
+    → isAccepted (stepOf (runOf t₀ ss) (Step.Tell (handleOf p (passageAt (runOf t₀ ss) p .generation)) s) .answer) ≡ true
+committed-may-tell {t₀} fresh ss p s m slot committed there away up room below empty =
+    let k = telling-run fresh ss in
+    let t : Tables = runOf t₀ ss in
+    let hold : Holds (viewOf t p) (ledgersOf t₀ ss p) = k .pledged .kept .slots p slot in
+    let still : StillTells t p = committed-goes-on-telling fresh ss p slot committed in
+    let g : passageAt t p .generation < 256 = generation-below fresh ss p in
+    tell-accepted t (handleOf p (passageAt t p .generation)) p s (k .pledged .kept .range) (omega arith) (omega arith) (omega arith)
+    (hold .passage .home)
+    (ap isFree committed)
+    (still .phase)
+    (still .answered s there)
+    (hold .sites s (hold .mirror s there .0) .place)
+    away
+    up
+    (omega arith)
+    (takes-empty t m below empty)
