@@ -7,6 +7,8 @@ pub mod Invoked
 pub mod Delivered
 pub mod HeldAway
 pub mod LetGo
+pub mod Freed
 pub mod HeldObject
 pub mod Stamped
+pub mod Turned
 pub mod Struck
