@@ -22,7 +22,7 @@ use Rattle.runs.specs.Kept.Times.{asked-says}
 use Rattle.runs.specs.Moves.Definitions.{isAnswer, PlainMail, OpenedFrom, Move, Turn}
 use Rattle.runs.specs.Moves.Laws.{sites-after, where-is, where-not}
 use Rattle.runs.specs.Commits.Vow.{RoundFor, RoundFits, Vow}
-use Rattle.runs.specs.Commits.VowLaws.{one-not-two, none-not-one, none-not-two, prepare-says, committed-tells, running-not-committed, aborted-not-committed, active-runs, telling-commits}
+use Rattle.runs.specs.Commits.VowLaws.{one-not-two, none-not-one, none-not-two, prepare-says, committed-tells, running-not-committed, aborted-not-committed, active-runs, telling-commits, SamePassage, same-passage}
 
 -- ---- the vow over a view with one visit, one clock and one message changed
 
@@ -30,17 +30,6 @@ use Rattle.runs.specs.Commits.VowLaws.{one-not-two, none-not-one, none-n
 pub vow-ledger : (w : View) (l : Ledger) (b : Bool) → Vow w l → Vow w (cond b noLedger l)
 vow-ledger w l true o = record { round = o .round; asked = λ e f s y. absurd (false≢true y); told = o .told; word = o .word; answers = o .answers }
 vow-ledger w l false o = o
-
--- a passage of which the status, the home and the round's number, kind and phase have stayed
-record SamePassage (x p : Passage) : Type 0 where
-  status : p .status ≡ x .status
-  home : p .home ≡ x .home
-  number : p .round .number ≡ x .round .number
-  kind : p .round .kind ≡ x .round .kind
-  phase : p .round .phase ≡ x .round .phase
-
-same-passage : (p : Passage) → SamePassage p p
-same-passage p = record { status = refl; home = refl; number = refl; kind = refl; phase = refl }
 
 module _ (w : View) (l : Ledger) (a k c source : ℕ) (v : Visit) (m : Message) (h : Holds w l) (o : Vow w l) where
   abbrev After : Passage → Type 0

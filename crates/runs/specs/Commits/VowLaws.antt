@@ -54,3 +54,14 @@ telling-commits p f used k two = go (p .status) refl f
     go Status.Aborted e (inl g) = absurd (none-not-two (sym g ∙ two))
     go Status.Aborted e (inr g) = absurd (false≢true (ap isPrepare (sym g ∙ k)))
     go Status.Committed e g = e
+
+-- a passage of which the status, the home and the round's number, kind and phase have stayed
+pub record SamePassage (x p : Passage) : Type 0 where
+  pub status : p .status ≡ x .status
+  pub home : p .home ≡ x .home
+  pub number : p .round .number ≡ x .round .number
+  pub kind : p .round .kind ≡ x .round .kind
+  pub phase : p .round .phase ≡ x .round .phase
+
+pub same-passage : (p : Passage) → SamePassage p p
+same-passage p = record { status = refl; home = refl; number = refl; kind = refl; phase = refl }
