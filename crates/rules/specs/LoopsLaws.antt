@@ -168,11 +168,14 @@ module _ (f : ℕ → ℕ) where
       (λ q. rw q (omega arith))
       (below-or-last i n h)
 
-  pub most-le : (b : ℕ) → ((i : ℕ) → f i ≤ b) → (n : ℕ) → mostUpTo f n ≤ b
+  -- a bound of every place is a bound of the largest
+  pub most-below : (b n : ℕ) → ((i : ℕ) → i < n → f i ≤ b) → mostUpTo f n ≤ b
   unfolding mostUpTo
-  most-le b h zero = omega arith
-  most-le b h (suc n) =
-      let m : mostUpTo f n ≤ b = most-le b h n in let k : f n ≤ b = h n in omega arith
+  most-below b zero h = omega arith
+  most-below b (suc n) h =
+      let m : mostUpTo f n ≤ b = most-below b n (λ i l. h i (omega arith)) in
+      let k : f n ≤ b = h n (omega arith) in
+      omega arith
 
 -- ---- loops that agree at every index agree
 

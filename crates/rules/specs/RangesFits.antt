@@ -1,6 +1,6 @@
 -- The ranges as bounds, field by field: what a record in range says, and what makes one; and the bounds of each part that the rules are made of.
 -- It serves Sane, which code needs, and RangesKept. Assumes nothing.
-use Prim.Native.Nat.{ℕ, zero, suc, _≤_, _<_}
+use Prim.Native.Nat.{ℕ, _≤_, _<_}
 use native.Mathlib.Omega.{arith}
 use mathlib.Core.Path.{_≡_, refl}
 use mathlib.Core.Bool.{Bool, true, false, cond, false≢true}
@@ -10,8 +10,7 @@ use lib.ListN.{getD, replicate, getD-replicate}
 use borrow.Author.Tests.{leb-true, le-leb, ltb-false}
 use Rattle.rules.specs.Types.{Object, Figures, Kind, Phase, Round, Passage, Visit, Call, Asked, Told, Message, Seen}
 use Rattle.rules.specs.Limits.{clockMost, timeMost, widthMost, countMost, handleMost}
-use Rattle.rules.specs.Loops.{mostUpTo}
-use Rattle.rules.specs.LoopsLaws.{and-left, and-right, and-both, every-at, every-all, cond-keeps}
+use Rattle.rules.specs.LoopsLaws.{and-left, and-right, and-both, every-at, every-all, most-below, cond-keeps}
 use Rattle.rules.specs.Tables.{pastObject, pastFigures, noCounts, noFigures, noRound, noVisit, noMessage}
 use Rattle.rules.specs.Ranges.{holderInRange, objectInRange, countsInRange, figuresInRange, kindInRange, phaseFits, roundInRange, visitInRange, callInRange, askedInRange, toldInRange, bodyInRange, messageInRange}
 use Rattle.rules.specs.Parts.{isPhaseOne, abortedPassage, quieted, newVisit, isHeldBy, taken, operated, unheld, freed, eachOf, figuresAt, hasAnswered, withAnswer, largestQuiesce, askedOf, toldOf, askedVisit, toldVisit, toldObjects, answerMessage}
@@ -294,15 +293,6 @@ told-in-range Kind.None m e h = le-leb m timeMost h
 told-in-range (Kind.Refresh q r) m e h = and-left (leb q timeMost) (leb r timeMost) e
 told-in-range Kind.Terminate m e h = le-leb m timeMost h
 told-in-range Kind.Prepare m e h = refl
-
--- most-le of LoopsLaws, where only the indices below n are known
-most-below : (f : ℕ → ℕ) (b n : ℕ) → ((i : ℕ) → i < n → f i ≤ b) → mostUpTo f n ≤ b
-unfolding mostUpTo
-most-below f b zero h = omega arith
-most-below f b (suc n) h =
-    let m : mostUpTo f n ≤ b = most-below f b n (λ i l. h i (omega arith)) in
-    let k : f n ≤ b = h n (omega arith) in
-    omega arith
 
 -- M is one of the kept figures, or 0
 pub round-told-in-range : (r : Round) → RoundFits r → toldInRange (roundTold r) ≡ true

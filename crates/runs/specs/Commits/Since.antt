@@ -2,7 +2,7 @@
 -- The idea: a store for another slot is a move in which this slot rests. Assumes nothing.
 use Prim.Native.Nat.{ℕ, _%_, _≤_, _<_}
 use mathlib.Core.Path.{_≡_, refl, sym, ap, _∙_, subst, subst₂}
-use mathlib.Core.Logic.{_≢_, ⊎-elim, _⊎_, inl}
+use mathlib.Core.Logic.{_≢_, ⊎-elim, inl}
 use mathlib.Core.Bool.{Bool, true, false, cond, _&&_, _||_, true≢false}
 use mathlib.Core.List.{List, [], _∷_}
 use borrow.Author.Tests.{eq-eqb}

@@ -4,14 +4,17 @@ use Prim.Native.Nat.{ℕ, _%_, _<_, _≤_}
 use native.Mathlib.Omega.{arith}
 use mathlib.Core.Path.{_≡_, refl, sym, ap, _∙_, subst, subst₂}
 use mathlib.Core.Logic.{_≢_}
-use mathlib.Core.Bool.{true, false}
+use mathlib.Core.Bool.{true, false, not}
+use mathlib.Core.List.{List}
 use borrow.Author.Tests.{ltb-false, ne-eqb}
+use Rattle.rules.specs.declared.outcomes.Check.{Check}
+use Rattle.rules.specs.declared.looking.Trip.{Trip}
 use Rattle.rules.specs.LoopsLaws.{not-false}
 use Rattle.rules.specs.Tables.{siteAt, passageAt, visitAt, messageAt, slotOf}
-use Rattle.rules.specs.Answers.{isAccepted, answerValue, firstOf}
-use Rattle.rules.specs.AnswersLaws.{accepted-fine, accepted-value, settle-accepted}
+use Rattle.rules.specs.Answers.{isAccepted, answerValue, firstOf, settleOf}
+use Rattle.rules.specs.AnswersLaws.{Fine, accepted-fine, accepted-value, settle-accepted}
 use Rattle.rules.specs.Parts.{isEmpty, nextClock, askedVisit, answerMessage}
-use Rattle.rules.specs.Rounds.{sentOut, askBody, askChecks, askDone, askOf, tellBody, tellChecks, tellDone, tellOf}
+use Rattle.rules.specs.Rounds.{sentOut, askBody, askOf, tellBody, tellOf}
 use Rattle.rules.specs.Calls.{mailClock, atHome, phaseOneDone, askedAt, deliverPhaseOneOf, deliverBodyOf}
 use Rattle.rules.specs.Machine.{lookOf, placesOf, decideOf, stored, stepOf}
 use Rattle.rules.specs.RangesLaws.{placed-places}
@@ -33,24 +36,55 @@ pub record Stamped (t : Tables) (place : ℕ) (says : Body) (from to h : ℕ) : 
 
 -- ---- what home sends
 
--- a step of a handle whose answer is a message slot, and which sends a message from home
-module _ (t : Tables) (step : Step) (h site : ℕ) (body : Body) (z : Sound t)
-    (lies : placesAt t step .site ≡ passageAt t (slotOf h) .home % 8)
-    (slot : placesAt t step .slot ≡ slotOf h)
-    (home : passageAt t (slotOf h) .home ≤ 7)
-    (left : stepOf t step .tables ≡ stored t (placesAt t step) (sentOut body h site (nextClock (seenAt t step .site)) (seenAt t step))) where
-  sent-stamped : Stamped (stepOf t step .tables) (placesAt t step .message) body (passageAt t (slotOf h) .home) site h
-  sent-stamped =
+-- what an ask and a tell decide: with these checks, to send this from home to that site, and to answer the message slot
+abbrev sending : List Check → Body → ℕ → ℕ → ℕ → Seen → Decision
+sending checks body h site place seen = record { answer = firstOf checks place; left = sentOut body h site (nextClock (seen .site)) seen }
+
+-- a step that goes through no slots and decides so
+module _ (t : Tables) (step : Step) (h site : ℕ) (body : Body) (checks : List Check)
+    (sends : decisionAt t step ≡ settleOf (sending checks body h site (placesAt t step .message) (seenAt t step)) (seenAt t step))
+    (alone : lookOf step .trip ≡ Trip.Nowhere)
+    (a : isAccepted (stepOf t step .answer) ≡ true) where
+  sent-checked : isAccepted (firstOf checks (placesAt t step .message)) ≡ true
+  sent-checked = rw sends at (decision-accepted t step a)
+
+  sent-answered : answerValue (stepOf t step .answer) ≡ placesAt t step .message
+  sent-answered =
+      ap
+      answerValue
+      (single-answer t step alone a ∙ ap (λ (d : Decision). d .answer) sends ∙ accepted-value checks _ sent-checked)
+
+  abbrev Sent : Seen
+  Sent = sending checks body h site (placesAt t step .message) (seenAt t step) .left
+
+  sent-left : stepOf t step .tables ≡ stored t (placesAt t step) Sent
+  sent-left =
+      single-stored t step alone a
+      ∙ ap (λ (d : Decision). stored t (placesAt t step) (d .left)) sends
+      ∙ ap (stored t (placesAt t step)) (settle-accepted (sending checks body h site (placesAt t step .message) (seenAt t step)) (seenAt t step) sent-checked)
+
+  -- if its checks say that the message slot which it sees has room, the slot that it answers was empty
+  sent-into-empty :
+      (Fine checks → not (isEmpty (seenAt t step .message .body)) ≡ false)
+      → isEmpty (messageAt t (answerValue (stepOf t step .answer)) .body) ≡ true
+  sent-into-empty room = rw sent-answered (not-false _ (room (accepted-fine checks _ sent-checked)))
+
+  sent-stamped :
+      Sound t → placesAt t step .site ≡ passageAt t (slotOf h) .home % 8 → placesAt t step .slot ≡ slotOf h
+      → Stamped (stepOf t step .tables) (answerValue (stepOf t step .answer)) body (passageAt t (slotOf h) .home) site h
+  sent-stamped z lies slot =
+      let seen : passageAt t (placesAt t step .slot) .home ≤ 7 = accepted-seen t step a .passage .home in
+      let home : passageAt t (slotOf h) .home ≤ 7 = rw slot at seen in
       let at : placesAt t step .site ≡ passageAt t (slotOf h) .home = lies ∙ (omega arith) in
-      let m : messageAt (stepOf t step .tables) (placesAt t step .message)
-      ≡ sentOut body h site (nextClock (seenAt t step .site)) (seenAt t step) .message =
-      ap (λ (x : Tables). messageAt x (placesAt t step .message)) left
+      let m : messageAt (stepOf t step .tables) (placesAt t step .message) ≡ Sent .message =
+      ap (λ (x : Tables). messageAt x (placesAt t step .message)) sent-left
       ∙ message-after-stored t (placesAt t step) _ (z .sized) (placed-places t (lookOf step)) in
-      let s : siteAt (stepOf t step .tables) (placesAt t step .site)
-      ≡ sentOut body h site (nextClock (seenAt t step .site)) (seenAt t step) .site =
-      ap (λ (x : Tables). siteAt x (placesAt t step .site)) left
+      let s : siteAt (stepOf t step .tables) (placesAt t step .site) ≡ Sent .site =
+      ap (λ (x : Tables). siteAt x (placesAt t step .site)) sent-left
       ∙ site-after-stored t (placesAt t step) _ (z .sized) (placed-places t (lookOf step)) in
-      record {
+      rw
+      sent-answered
+      (record {
         place-below = placed-places t (lookOf step) .message;
         body = ap (λ (x : Message). x .body) m;
         source = ap (λ (x : Message). x .source) m ∙ ap (λ (p : ℕ). passageAt t p .home) slot;
@@ -59,28 +93,20 @@ module _ (t : Tables) (step : Step) (h site : ℕ) (body : Body) (z : Sound t)
         stamp =
             ap (λ (x : Message). x .stamp) m ∙ ap (λ (x : Site). x .clock) (sym s)
             ∙ ap (λ (x : ℕ). siteAt (stepOf t step .tables) x .clock) at;
-      }
+      })
 
-module _ (t : Tables) (h site : ℕ) (z : Sound t) (a : isAccepted (stepOf t (Step.Ask h site) .answer) ≡ true) where
-  ask-checked : isAccepted (firstOf (askChecks h site (seenAt t (Step.Ask h site))) (placesAt t (Step.Ask h site) .message)) ≡ true
-  unfolding decideOf askOf
-  ask-checked = decision-accepted t (Step.Ask h site) a
-
-  ask-answered : answerValue (stepOf t (Step.Ask h site) .answer) ≡ placesAt t (Step.Ask h site) .message
-  unfolding decideOf askOf
-  ask-answered =
-      ap
-      answerValue
-      (single-answer t (Step.Ask h site) refl a ∙ accepted-value (askChecks h site (seenAt t (Step.Ask h site))) _ ask-checked)
-
+module _ (t : Tables) (h site : ℕ) (z : Sound t) where
   -- the message slot that an accepted ask answers was empty
-  pub asked-into-empty : isEmpty (messageAt t (answerValue (stepOf t (Step.Ask h site) .answer)) .body) ≡ true
-  asked-into-empty =
-      rw ask-answered (not-false _ (accepted-fine (askChecks h site (seenAt t (Step.Ask h site))) _ ask-checked .room))
+  pub asked-into-empty :
+      isAccepted (stepOf t (Step.Ask h site) .answer) ≡ true
+      → isEmpty (messageAt t (answerValue (stepOf t (Step.Ask h site) .answer)) .body) ≡ true
+  unfolding decideOf askOf
+  asked-into-empty a = sent-into-empty t (Step.Ask h site) h site _ _ refl refl a (λ f. f .room)
 
   -- an accepted ask leaves there the phase 1 message of the passage's round, from home to the site that it names, with home's clock after it
   pub stamped-when-asked :
-      Stamped
+      isAccepted (stepOf t (Step.Ask h site) .answer) ≡ true
+      → Stamped
       (stepOf t (Step.Ask h site) .tables)
       (answerValue (stepOf t (Step.Ask h site) .answer))
       (askBody (passageAt t (slotOf h) .round))
@@ -88,36 +114,19 @@ module _ (t : Tables) (h site : ℕ) (z : Sound t) (a : isAccepted (stepOf t (St
       site
       h
   unfolding decideOf askOf placesOf
-  stamped-when-asked =
-      rw
-      ask-answered
-      (sent-stamped t (Step.Ask h site) h site (askBody (passageAt t (slotOf h) .round)) z refl refl
-      (accepted-seen t (Step.Ask h site) a .passage .home)
-      (single-stored t (Step.Ask h site) refl a
-      ∙ ap
-      (stored t (placesAt t (Step.Ask h site)))
-      (settle-accepted (askDone h site (placesAt t (Step.Ask h site) .message) (seenAt t (Step.Ask h site))) (seenAt t (Step.Ask h site)) ask-checked)))
-
-module _ (t : Tables) (h site : ℕ) (z : Sound t) (a : isAccepted (stepOf t (Step.Tell h site) .answer) ≡ true) where
-  tell-checked : isAccepted (firstOf (tellChecks h site (seenAt t (Step.Tell h site))) (placesAt t (Step.Tell h site) .message)) ≡ true
-  unfolding decideOf tellOf
-  tell-checked = decision-accepted t (Step.Tell h site) a
-
-  tell-answered : answerValue (stepOf t (Step.Tell h site) .answer) ≡ placesAt t (Step.Tell h site) .message
-  unfolding decideOf tellOf
-  tell-answered =
-      ap
-      answerValue
-      (single-answer t (Step.Tell h site) refl a ∙ accepted-value (tellChecks h site (seenAt t (Step.Tell h site))) _ tell-checked)
+  stamped-when-asked a = sent-stamped t (Step.Ask h site) h site _ _ refl refl a z refl refl
 
   -- the message slot that an accepted tell answers was empty
-  pub told-into-empty : isEmpty (messageAt t (answerValue (stepOf t (Step.Tell h site) .answer)) .body) ≡ true
-  told-into-empty =
-      rw tell-answered (not-false _ (accepted-fine (tellChecks h site (seenAt t (Step.Tell h site))) _ tell-checked .room))
+  pub told-into-empty :
+      isAccepted (stepOf t (Step.Tell h site) .answer) ≡ true
+      → isEmpty (messageAt t (answerValue (stepOf t (Step.Tell h site) .answer)) .body) ≡ true
+  unfolding decideOf tellOf
+  told-into-empty a = sent-into-empty t (Step.Tell h site) h site _ _ refl refl a (λ f. f .room)
 
   -- an accepted tell leaves there the phase 2 message of the passage's round, from home to the site that it names, with home's clock after it
   pub stamped-when-told :
-      Stamped
+      isAccepted (stepOf t (Step.Tell h site) .answer) ≡ true
+      → Stamped
       (stepOf t (Step.Tell h site) .tables)
       (answerValue (stepOf t (Step.Tell h site) .answer))
       (tellBody (passageAt t (slotOf h) .round))
@@ -125,15 +134,7 @@ module _ (t : Tables) (h site : ℕ) (z : Sound t) (a : isAccepted (stepOf t (St
       site
       h
   unfolding decideOf tellOf placesOf
-  stamped-when-told =
-      rw
-      tell-answered
-      (sent-stamped t (Step.Tell h site) h site (tellBody (passageAt t (slotOf h) .round)) z refl refl
-      (accepted-seen t (Step.Tell h site) a .passage .home)
-      (single-stored t (Step.Tell h site) refl a
-      ∙ ap
-      (stored t (placesAt t (Step.Tell h site)))
-      (settle-accepted (tellDone h site (placesAt t (Step.Tell h site) .message) (seenAt t (Step.Tell h site))) (seenAt t (Step.Tell h site)) tell-checked)))
+  stamped-when-told a = sent-stamped t (Step.Tell h site) h site _ _ refl refl a z refl refl
 
 -- ---- what a station answers
 

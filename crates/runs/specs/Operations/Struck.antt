@@ -3,7 +3,7 @@
 use Prim.Native.Nat.{ℕ, _%_, _<_, _≤_}
 use native.Mathlib.Omega.{arith}
 use mathlib.Core.Path.{_≡_, refl, sym, ap, _∙_, subst}
-use mathlib.Core.Logic.{_≢_, ⊎-elim, _⊎_}
+use mathlib.Core.Logic.{⊎-elim}
 use mathlib.Core.Bool.{Bool, true, false, cond, not, _||_, false≢true}
 use borrow.Author.Tests.{ltb-false, leb-false, eq-eqb}
 use Rattle.rules.specs.LoopsLaws.{either}
@@ -16,14 +16,14 @@ use Rattle.rules.specs.Rounds.{openOf, terminateOf}
 use Rattle.rules.specs.Machine.{lookOf, placesOf, decideOf, headOf, stepOf}
 use Rattle.rules.specs.RangesLaws.{placed-places}
 use Rattle.rules.specs.StoredLaws.{site-after-stored, visit-after-stored}
-use Rattle.rules.specs.Views.{settled, settled-accepted}
-use Rattle.runs.specs.Types.{Site, Phase, Status, Passage, Visit, Asked, Body, Tables, Step, Seen, Found}
+use Rattle.rules.specs.Views.{settled-accepted}
+use Rattle.runs.specs.Types.{Site, Phase, Status, Passage, Visit, Asked, Body, Tables, Step, Seen}
 use Rattle.runs.specs.Walk.Plain.{when-true}
 use Rattle.runs.specs.Walk.Steps.{placesAt, seenAt, turnsOf, head-accepted}
 use Rattle.runs.specs.Walk.Sound.{Sound}
 use Rattle.runs.specs.Operations.Single.{accepted-seen, decision-accepted, single-stored}
 use Rattle.runs.specs.Operations.Stamped.{asked-visit}
-use Rattle.runs.specs.Operations.Turned.{station-after, slot-after}
+use Rattle.runs.specs.Operations.Turned.{Stays, settled-stays, station-after, slot-after}
 
 -- ---- crashes
 
@@ -66,12 +66,9 @@ loses-home : (s : ℕ) (p : Passage) → isRunning (p .status) ≡ true → p .h
 loses-home s p r e = rw (r, eq-eqb (p .home) s e)
 
 module _ (t : Tables) (s : ℕ) (z : Sound t) (a : isAccepted (stepOf t (Step.Crash s) .answer) ≡ true) where
-  crash-stays :
-      (found : Found) (seen : Seen)
-      → (decideOf (Step.Crash s) found seen .left .passage ≡ seen .passage) × (decideOf (Step.Crash s) found seen .left .visit ≡ seen .visit)
+  crash-stays : Stays (Step.Crash s)
   unfolding decideOf crashOf
-  crash-stays found seen =
-      settled (λ (x : Seen). (x .passage ≡ seen .passage) × (x .visit ≡ seen .visit)) _ _ seen _ (λ f. (refl, refl)) (refl, refl)
+  crash-stays found seen = settled-stays _ _ seen _ refl refl
 
   crash-decided : isAccepted (crashDone s (seenAt t (Step.Crash s)) .answer) ≡ true
   unfolding headOf decideOf crashOf
@@ -161,12 +158,9 @@ left-unreleased s p seen =
     (either (isSwept seen))
 
 module _ (t : Tables) (s : ℕ) (z : Sound t) (a : isAccepted (stepOf t (Step.Sweep s) .answer) ≡ true) where
-  sweep-stays :
-      (found : Found) (seen : Seen)
-      → (decideOf (Step.Sweep s) found seen .left .passage ≡ seen .passage) × (decideOf (Step.Sweep s) found seen .left .visit ≡ seen .visit)
+  sweep-stays : Stays (Step.Sweep s)
   unfolding decideOf sweepOf
-  sweep-stays found seen =
-      settled (λ (x : Seen). (x .passage ≡ seen .passage) × (x .visit ≡ seen .visit)) _ _ seen _ (λ f. (refl, refl)) (refl, refl)
+  sweep-stays found seen = settled-stays _ _ seen _ refl refl
 
   sweep-decided : isAccepted (sweepDone s (seenAt t (Step.Sweep s)) .answer) ≡ true
   unfolding headOf decideOf sweepOf

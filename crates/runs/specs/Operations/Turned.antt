@@ -5,12 +5,15 @@ use native.Mathlib.Nat.{ne-of-lt}
 use mathlib.Core.Path.{_≡_, refl, sym, ap, _∙_, subst, subst₂}
 use mathlib.Core.Logic.{_≢_, ⊎-elim, _⊎_, inl, inr}
 use mathlib.Core.Bool.{true}
+use mathlib.Core.List.{List}
+use Rattle.rules.specs.declared.outcomes.Check.{Check}
 use Rattle.rules.specs.declared.looking.Trip.{Trip}
 use Rattle.rules.specs.Tables.{siteAt, passageAt, visitAt}
-use Rattle.rules.specs.Answers.{isAccepted}
+use Rattle.rules.specs.Answers.{isAccepted, firstOf, settleOf}
 use Rattle.rules.specs.Machine.{lookOf, seenOf, decideOf, headOf, tripSite, tripPlaces, turnSeen, turnOf, stepOf}
 use Rattle.rules.specs.RangesLaws.{placed-places, placed-trip}
 use Rattle.rules.specs.StoredLaws.{turn-stored, visit-place-same, site-after-stored, passage-after-stored, passage-after-stored-other, visit-after-stored, visit-after-stored-other}
+use Rattle.rules.specs.Views.{settled}
 use Rattle.runs.specs.Types.{Site, Passage, Visit, Tables, Step, Seen, Outcome, Found}
 use Rattle.runs.specs.Walk.Put.{same-or-other}
 use Rattle.runs.specs.Walk.Steps.{placesAt, seenAt, turnsOf}
@@ -97,11 +100,21 @@ module _ (trip : Trip) (p : ℕ) (slot : p < 16) where
             )
         yet (j, (a, b)) (inr m) = inr (omega (arith, m), (turn-passage-other n o m ∙ a, turn-visit-other n o i m ∙ b))
 
--- the own store of such a step moves the clock and leaves every passage and every visit
-module _ (t : Tables) (step : Step) (z : Sound t)
-    (stays :
+-- the own store of such a step moves the clock and leaves the passage and the visit
+abbrev pub Stays : Step → Type 0
+Stays step =
     (found : Found) (seen : Seen)
-    → (decideOf step found seen .left .passage ≡ seen .passage) × (decideOf step found seen .left .visit ≡ seen .visit)) where
+    → (decideOf step found seen .left .passage ≡ seen .passage) × (decideOf step found seen .left .visit ≡ seen .visit)
+
+pub settled-stays :
+    (cs : List Check) (v : ℕ) (seen left : Seen) → left .passage ≡ seen .passage → left .visit ≡ seen .visit
+    → (settleOf (record { answer = firstOf cs v; left = left }) seen .left .passage ≡ seen .passage)
+    × (settleOf (record { answer = firstOf cs v; left = left }) seen .left .visit ≡ seen .visit)
+settled-stays cs v seen left a b =
+    settled (λ (x : Seen). (x .passage ≡ seen .passage) × (x .visit ≡ seen .visit)) cs v seen left (λ f. (a, b)) (refl, refl)
+
+-- then it leaves every passage and every visit
+module _ (t : Tables) (step : Step) (z : Sound t) (stays : Stays step) where
   head-passage : (p : ℕ) → passageAt (headOf t step .tables) p ≡ passageAt t p
   unfolding headOf
   head-passage p =

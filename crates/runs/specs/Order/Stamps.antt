@@ -5,7 +5,7 @@
 use Prim.Native.Nat.{ℕ, _≤_, _<_}
 use native.Mathlib.Omega.{arith}
 use mathlib.Core.Path.{_≡_, refl, sym, ap, _∙_, subst}
-use mathlib.Core.Logic.{_≢_, ⊎-elim, _⊎_, inl, inr}
+use mathlib.Core.Logic.{⊎-elim, inl, inr}
 use mathlib.Core.Bool.{Bool, true, false, _&&_, true≢false, false≢true}
 use mathlib.Core.List.{List, [], _∷_}
 use lib.Dec.{eqb}
@@ -176,6 +176,26 @@ module _ (p u k : ℕ) where
       y)
       (among-joined (withUses uses (eventsOf t step)) _ e a)
 
+-- two events that one step never does: what holds where a step does the first and the steps after it the second holds where they are in order
+module _ (x y : PassageEvent) (Goal : Type 0)
+    (apart :
+    (t : Tables) (uses : ℕ → ℕ) (step : Step) → Held t → Among x (withUses uses (eventsOf t step)) → Among y (withUses uses (eventsOf t step)) → ⊥)
+    (later :
+    (t : Tables) (ls : ℕ → Ledger) (uses : ℕ → ℕ) (step : Step) (ss : List Step) → Held t → Pledged t ls
+    → Among x (withUses uses (eventsOf t step)) → Among y (eventsFrom (stepOf t step .tables) (usesAfter t step uses) ss) → Goal) where
+  one-then-other :
+      (t : Tables) (ls : ℕ → Ledger) (uses : ℕ → ℕ) (ss : List Step) → Held t → Pledged t ls → InOrder x y (eventsFrom t uses ss) → Goal
+  unfolding eventsFrom
+  one-then-other t ls uses [] held pledged o = absurd o
+  one-then-other t ls uses (step ∷ ss) held pledged o =
+      let events : List PassageEvent = withUses uses (eventsOf t step) in
+      ⊎-elim
+      (λ both. absurd (apart t uses step held (ordered-first events x y both) (ordered-second events x y both)))
+      (⊎-elim
+      (λ b. later t ls uses step ss held pledged (b .0) (b .1))
+      (λ b. one-then-other (stepOf t step .tables) _ (usesAfter t step uses) ss (held-step t step held) (pledged-after-step t step ls pledged) b))
+      (ordered-joined events _ x y o)
+
 module _ (p u k j : ℕ) (e f : PassageEvent) (operation : isOperation p u k e ≡ true) (letting : isLettingGo p u j f ≡ true) where
   -- no step does both
   not-in-one-step :
@@ -192,25 +212,19 @@ module _ (p u k j : ℕ) (e f : PassageEvent) (operation : isOperation p u k e �
       (h .means .held frees))
       ∙ h .means .freed frees)
 
-  -- an operation of the passage in the list, and a letting go after it
+  -- an operation of the passage, and a letting go after it
   operation-first :
-      (t : Tables) (ls : ℕ → Ledger) (uses : ℕ → ℕ) (ss : List Step) → Held t → Pledged t ls → InOrder e f (eventsFrom t uses ss)
+      (t : Tables) (ls : ℕ → Ledger) (uses : ℕ → ℕ) (step : Step) (ss : List Step) → Held t → Pledged t ls
+      → Among e (withUses uses (eventsOf t step)) → Among f (eventsFrom (stepOf t step .tables) (usesAfter t step uses) ss)
       → e .event .stamp < f .event .stamp
-  unfolding eventsFrom
-  operation-first t ls uses [] held pledged o = absurd o
-  operation-first t ls uses (step ∷ ss) held pledged o =
+  operation-first t ls uses step ss held pledged a b =
       let one = named p u k e _ operation in
       let other = named p u j f _ letting in
       let next = pledged-after-step t step ls pledged in
-      let events : List PassageEvent = withUses uses (eventsOf t step) in
-      ⊎-elim
-      (λ both. absurd (not-in-one-step t uses step held (ordered-first events e f both) (ordered-second events e f both)))
-      (⊎-elim
-      (λ b.
-      let h = happens t uses step e held (b .0) in
+      let h = happens t uses step e held a in
       let slot : p < 16 = subst (λ (q : ℕ). q < 16) (one .slot) (h .place .slot) in
       let used : uses p ≡ u = ap uses (sym (one .slot)) ∙ sym (h .used) ∙ one .used in
-      let on = use-goes-on t uses step ss f p (b .1) (other .slot) (other .used ∙ sym used) in
+      let on = use-goes-on t uses step ss f p b (other .slot) (other .used ∙ sym used) in
       let does = h .means .operation (and-right (isOf p u k e) _ operation) in
       let early = subst (λ (q : ℕ). StillOpen (stepOf t step .tables) (objectSite (e .event .object)) q) (one .slot)
       (nothing-after-quiesce-there t (e .event .slot) (e .event .object) step (held .sound) does held) in
@@ -219,31 +233,22 @@ module _ (p u k j : ℕ) (e f : PassageEvent) (operation : isOperation p u k e �
       (marked-later p u j _ (objectSite (e .event .object)) (stepOf t step .tables) (usesAfter t step uses) ss f slot (held-step t step held)
       (record { ledgers = _; pledged = next; has = marked-at-once (stepOf t step .tables) _ next (objectSite (e .event .object)) p slot early })
       (on .1 ∙ used)
-      (b .1)
-      letting))
-      (λ b. operation-first (stepOf t step .tables) _ (usesAfter t step uses) ss (held-step t step held) next b))
-      (ordered-joined events _ e f o)
+      b
+      letting)
 
-  -- a letting go in the list, and an operation of the passage after it
+  -- a letting go, and an operation of the passage after it
   letting-first :
-      (t : Tables) (ls : ℕ → Ledger) (uses : ℕ → ℕ) (ss : List Step) → Held t → Pledged t ls → InOrder f e (eventsFrom t uses ss)
+      (t : Tables) (ls : ℕ → Ledger) (uses : ℕ → ℕ) (step : Step) (ss : List Step) → Held t → Pledged t ls
+      → Among f (withUses uses (eventsOf t step)) → Among e (eventsFrom (stepOf t step .tables) (usesAfter t step uses) ss)
       → e .event .stamp < f .event .stamp
-  unfolding eventsFrom
-  letting-first t ls uses [] held pledged o = absurd o
-  letting-first t ls uses (step ∷ ss) held pledged o =
+  letting-first t ls uses step ss held pledged a b =
       let one = named p u k e _ operation in
       let other = named p u j f _ letting in
       let frees = and-right (isOf p u j f) _ letting in
-      let next = pledged-after-step t step ls pledged in
-      let events : List PassageEvent = withUses uses (eventsOf t step) in
-      ⊎-elim
-      (λ both. absurd (not-in-one-step t uses step held (ordered-second events f e both) (ordered-first events f e both)))
-      (⊎-elim
-      (λ b.
-      let h = happens t uses step f held (b .0) in
+      let h = happens t uses step f held a in
       let slot : p < 16 = subst (λ (q : ℕ). q < 16) (other .slot) (h .place .slot) in
       let used : uses p ≡ u = ap uses (sym (other .slot)) ∙ sym (h .used) ∙ other .used in
-      let on = use-goes-on t uses step ss e p (b .1) (one .slot) (one .used ∙ sym used) in
+      let on = use-goes-on t uses step ss e p b (one .slot) (one .used ∙ sym used) in
       rw
       (stamp-of t uses step f h)
       (let-go-later p u k _ (objectSite (f .event .object)) (stepOf t step .tables) (usesAfter t step uses) ss e slot (held-step t step held)
@@ -251,10 +256,8 @@ module _ (p u k j : ℕ) (e f : PassageEvent) (operation : isOperation p u k e �
       (subst (λ (q : ℕ). isHolding t q (f .event .object) ≡ true) (other .slot) (h .means .held frees))
       (subst (λ (q : ℕ). isHolding (stepOf t step .tables) q (f .event .object) ≡ false) (other .slot) (h .means .freed frees)))
       (on .1 ∙ used)
-      (b .1)
-      operation))
-      (λ b. letting-first (stepOf t step .tables) _ (usesAfter t step uses) ss (held-step t step held) next b))
-      (ordered-joined events _ f e o)
+      b
+      operation)
 
 -- ---- the theorem
 
@@ -276,6 +279,11 @@ operation-before-letting-go {t₀} fresh ss p u k j e f a b y z =
     ⊎-elim
     (λ same. absurd (operation-or-letting p u k j e y (subst (λ (x : PassageEvent). isLettingGo p u j x ≡ true) (sym same) z)))
     (⊎-elim
-    (λ o. operation-first p u k j e f y z t₀ _ (λ q. 0) ss (held-started fresh) (pledged-started fresh) o)
-    (λ o. letting-first p u k j e f y z t₀ _ (λ q. 0) ss (held-started fresh) (pledged-started fresh) o))
+    (λ o.
+    one-then-other e f (e .event .stamp < f .event .stamp) (not-in-one-step p u k j e f y z) (operation-first p u k j e f y z)
+    t₀ _ (λ q. 0) ss (held-started fresh) (pledged-started fresh) o)
+    (λ o.
+    one-then-other f e (e .event .stamp < f .event .stamp) (λ t uses step held c d. not-in-one-step p u k j e f y z t uses step held d c)
+    (letting-first p u k j e f y z)
+    t₀ _ (λ q. 0) ss (held-started fresh) (pledged-started fresh) o))
     (among-ordered (eventsFrom t₀ (λ q. 0) ss) e f a b)

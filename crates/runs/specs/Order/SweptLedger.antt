@@ -1,7 +1,7 @@
 -- What a sweep leaves in the ledger of a slot: the release time of its visit, whether the visit goes or stays. Assumes nothing.
 use Prim.Native.Nat.{ℕ, _≤_, _<_}
 use mathlib.Core.Path.{_≡_, refl, sym, ap, _∙_, subst}
-use mathlib.Core.Logic.{_≢_, ⊎-elim}
+use mathlib.Core.Logic.{⊎-elim}
 use mathlib.Core.Bool.{true, false, false≢true}
 use Rattle.rules.specs.declared.looking.Trip.{Trip}
 use Rattle.rules.specs.Tables.{messageAt}

@@ -14,7 +14,7 @@ use lib.ListN.{length}
 use borrow.Author.Tests.{leb-true, eqb-true, eqb-false}
 use Rattle.rules.specs.Limits.{clockMost, timeMost, countMost, tickMost}
 use Rattle.rules.specs.Loops.{mostUpTo}
-use Rattle.rules.specs.LoopsLaws.{either, cond-keeps}
+use Rattle.rules.specs.LoopsLaws.{either, most-below, cond-keeps}
 use Rattle.rules.specs.Tables.{siteAt, passageAt, visitAt, messageAt}
 use Rattle.rules.specs.Ranges.{askedInRange, toldInRange, bodyInRange, inRange}
 use Rattle.rules.specs.RangesLaws.{both, seen-in-range}
@@ -60,15 +60,6 @@ pub record Clears (t : Tables) (site slot : ℕ) : Type 0 where
   pub cleared : NothingLeft (runOf t (clearing site recovers ticks)) slot site
 
 -- ---- T is at most 1,000,000,000
-
--- a bound of every place is a bound of the largest
-most-below : (f : ℕ → ℕ) (b n : ℕ) → ((i : ℕ) → i < n → f i ≤ b) → mostUpTo f n ≤ b
-unfolding mostUpTo
-most-below f b zero h = omega arith
-most-below f b (suc n) h =
-    let m : mostUpTo f n ≤ b = most-below f b n (λ i l. h i (omega arith)) in
-    let k : f n ≤ b = h n (omega arith) in
-    omega arith
 
 -- the time that a phase 1 message asks for is in range
 asked-time : (a : Asked) → askedInRange a ≡ true → askedRelease a ≤ timeMost

@@ -1,34 +1,36 @@
 -- Steps of a station that are sure to be accepted: when a tick, a recover and a sweep are, and what they leave of the station's clock.
 -- Assumes nothing.
-use Prim.Native.Nat.{ℕ, _+_, _-_, _%_, _<_, _≤_}
+use Prim.Native.Nat.{ℕ, _+_, _%_, _<_, _≤_}
 use native.Mathlib.Omega.{arith}
-use mathlib.Core.Path.{_≡_, ap, _∙_, subst}
+use mathlib.Core.Path.{_≡_, refl, ap, _∙_, subst}
 use mathlib.Core.Bool.{true, false}
 use borrow.Author.Tests.{ne-eqb, le-ltb}
+use Rattle.rules.specs.declared.looking.Trip.{Trip}
 use Rattle.rules.specs.Limits.{clockMost, tickMost}
 use Rattle.rules.specs.Tables.{siteAt}
 use Rattle.rules.specs.Ranges.{inRange}
-use Rattle.rules.specs.Answers.{isAccepted, firstOf}
+use Rattle.rules.specs.Answers.{isAccepted, firstOf, settleOf}
 use Rattle.rules.specs.AnswersLaws.{settle-accepted}
 use Rattle.rules.specs.Checks.{badSite}
 use Rattle.rules.specs.Stations.{tickOf, tickDone, sweepOf, recoverOf, recoverDone}
-use Rattle.rules.specs.Machine.{lookOf, placesOf, decideOf, stored, headOf, turnsUpTo, stepInRangeOf, stepOf}
+use Rattle.rules.specs.Machine.{lookOf, placesOf, decideOf, headOf, stepInRangeOf, stepOf}
 use Rattle.rules.specs.StoredLaws.{site-after-stored}
 use Rattle.rules.specs.RangesLaws.{placed-places}
 use Rattle.rules.specs.RangesKept.{in-range-after-step}
 use Rattle.rules.specs.RefusedLaws.{turns-keep}
-use Rattle.runs.specs.Types.{Tables, Step, Places, Seen}
-use Rattle.runs.specs.Walk.Steps.{turnsOf, placesAt, seenAt, accepted-turned, head-accepted}
+use Rattle.runs.specs.Types.{Tables, Step, Seen, Decision}
+use Rattle.runs.specs.Walk.Steps.{turnsOf, placesAt, seenAt}
 use Rattle.runs.specs.Walk.Sound.{Sound}
+use Rattle.runs.specs.Operations.Single.{decisionAt, decision-accepted, single-stored}
 
 -- ---- tables in range
 
 -- a step whose own store is accepted is accepted
-accepted-in-range :
+accepted-with-head :
     (t : Tables) (step : Step) → inRange t ≡ true → isAccepted (headOf t step .answer) ≡ true
     → isAccepted (stepOf t step .answer) ≡ true
 unfolding stepOf stepInRangeOf
-accepted-in-range t step r e = rw r (turns-keep (lookOf step .trip) (headOf t step) (turnsOf t step) ∙ e)
+accepted-with-head t step r e = rw r (turns-keep (lookOf step .trip) (headOf t step) (turnsOf t step) ∙ e)
 
 -- every step leaves the tables in range
 pub in-range-step : (t : Tables) (step : Step) → inRange t ≡ true → inRange (stepOf t step .tables) ≡ true
@@ -46,13 +48,27 @@ module _ (site : ℕ) (place : site < 8) (t : Tables) (z : Sound t) (r : inRange
   good-site : badSite site ≡ false
   good-site = le-ltb 7 site (omega arith)
 
+  -- an accepted step that goes through no slots leaves its station as it decided
+  station-left :
+      (step : Step) (d : Decision) → lookOf step .trip ≡ Trip.Nowhere → placesAt t step .site ≡ site
+      → decisionAt t step ≡ settleOf d (seenAt t step) → isAccepted (stepOf t step .answer) ≡ true
+      → siteAt (stepOf t step .tables) site ≡ d .left .site
+  station-left step d alone lies decided e =
+      subst
+      (λ (x : ℕ). siteAt (stepOf t step .tables) x ≡ d .left .site)
+      lies
+      (ap (λ (u : Tables). siteAt u (placesAt t step .site)) (single-stored t step alone e)
+      ∙ site-after-stored t (placesAt t step) _ (z .sized) (placed-places t (lookOf step))
+      ∙ ap (λ (x : Decision). x .left .site) decided
+      ∙ ap (λ (x : Seen). x .site) (settle-accepted d (seenAt t step) (rw decided at (decision-accepted t step e))))
+
   -- a tick of 1 to 1,000,000 is accepted where the station is up and the clock has room
   pub tick-accepted :
       (n : ℕ) → 1 ≤ n → n ≤ tickMost → siteAt t site .up ≡ true → siteAt t site .clock + n ≤ clockMost
       → isAccepted (stepOf t (Step.Tick site n) .answer) ≡ true
   unfolding headOf decideOf tickOf placesOf firstOf
   tick-accepted n some most up room =
-      accepted-in-range
+      accepted-with-head
       t
       (Step.Tick site n)
       r
@@ -62,17 +78,12 @@ module _ (site : ℕ) (place : site < 8) (t : Tables) (z : Sound t) (r : inRange
   pub tick-leaves :
       (n : ℕ) → isAccepted (stepOf t (Step.Tick site n) .answer) ≡ true
       → siteAt (stepOf t (Step.Tick site n) .tables) site ≡ record { clock = siteAt t site .clock + n; up = siteAt t site .up }
-  unfolding headOf decideOf tickOf placesOf turnsUpTo
+  unfolding decideOf tickOf placesOf
   tick-leaves n e =
-      let h : isAccepted (headOf t (Step.Tick site n) .answer) ≡ true = head-accepted t (Step.Tick site n) e in
-      let at : Places = placesAt t (Step.Tick site n) in
-      let seen : Seen = seenAt t (Step.Tick site n) in
-      rw (accepted-turned t (Step.Tick site n) e)
-      (subst
-      (λ (x : ℕ). siteAt (stored t at (tickOf site n seen .left)) x ≡ record { clock = siteAt t x .clock + n; up = siteAt t x .up })
+      subst
+      (λ (x : ℕ). siteAt (stepOf t (Step.Tick site n) .tables) site ≡ record { clock = siteAt t x .clock + n; up = siteAt t x .up })
       same-place
-      (site-after-stored t at (tickOf site n seen .left) (z .sized) (placed-places t (lookOf (Step.Tick site n)))
-      ∙ ap (λ (x : Seen). x .site) (settle-accepted (tickDone site n seen) seen h)))
+      (station-left (Step.Tick site n) (tickDone site n (seenAt t (Step.Tick site n))) refl same-place refl e)
 
   -- a recover is accepted where the station is down and the clock has room
   pub recover-accepted :
@@ -80,7 +91,7 @@ module _ (site : ℕ) (place : site < 8) (t : Tables) (z : Sound t) (r : inRange
       → isAccepted (stepOf t (Step.Recover site) .answer) ≡ true
   unfolding headOf decideOf recoverOf placesOf firstOf
   recover-accepted down room =
-      accepted-in-range
+      accepted-with-head
       t
       (Step.Recover site)
       r
@@ -90,17 +101,12 @@ module _ (site : ℕ) (place : site < 8) (t : Tables) (z : Sound t) (r : inRange
   pub recover-leaves :
       isAccepted (stepOf t (Step.Recover site) .answer) ≡ true
       → siteAt (stepOf t (Step.Recover site) .tables) site ≡ record { clock = siteAt t site .clock + 1; up = true }
-  unfolding headOf decideOf recoverOf placesOf turnsUpTo
+  unfolding decideOf recoverOf placesOf
   recover-leaves e =
-      let h : isAccepted (headOf t (Step.Recover site) .answer) ≡ true = head-accepted t (Step.Recover site) e in
-      let at : Places = placesAt t (Step.Recover site) in
-      let seen : Seen = seenAt t (Step.Recover site) in
-      rw (accepted-turned t (Step.Recover site) e)
-      (subst
-      (λ (x : ℕ). siteAt (stored t at (recoverOf site seen .left)) x ≡ record { clock = siteAt t x .clock + 1; up = true })
+      subst
+      (λ (x : ℕ). siteAt (stepOf t (Step.Recover site) .tables) site ≡ record { clock = siteAt t x .clock + 1; up = true })
       same-place
-      (site-after-stored t at (recoverOf site seen .left) (z .sized) (placed-places t (lookOf (Step.Recover site)))
-      ∙ ap (λ (x : Seen). x .site) (settle-accepted (recoverDone site seen) seen h)))
+      (station-left (Step.Recover site) (recoverDone site (seenAt t (Step.Recover site))) refl same-place refl e)
 
   -- a sweep is accepted where the station is up and the clock has room
   pub sweep-accepted :
@@ -108,7 +114,7 @@ module _ (site : ℕ) (place : site < 8) (t : Tables) (z : Sound t) (r : inRange
       → isAccepted (stepOf t (Step.Sweep site) .answer) ≡ true
   unfolding headOf decideOf sweepOf placesOf firstOf
   sweep-accepted up room =
-      accepted-in-range
+      accepted-with-head
       t
       (Step.Sweep site)
       r
