@@ -59,7 +59,7 @@ let-go-unheld value = refl
 
 -- ---- two who hold one object are one
 
--- let-go-one below rests on it, and of the theorems over runs listed-by-one (runs, Events/HeldByList), never-on-both-sides (Order/Sides) and abort-is-whole (Whole/Whole)
+-- let-go-one below uses it, and in runs listed-by-one, value-while-held, operation-before-letting-go, never-on-both-sides and abort-is-whole
 pub one-holder : (p q : ℕ) (o : Object) → isHeldBy p o ≡ true → isHeldBy q o ≡ true → p ≡ q
 one-holder p q o e f = let y : o .holder ≡ Holder.Slot p = held-means p o .0 e in eqb-true p q (rw y at f)
 
