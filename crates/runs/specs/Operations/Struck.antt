@@ -92,22 +92,25 @@ module _ (t : Tables) (s : ℕ) (z : Sound t) (a : isAccepted (stepOf t (Step.Cr
       ∙ site-after-stored t (placesAt t (Step.Crash s)) _ (z .sized) (placed-places t (lookOf (Step.Crash s)))
       ∙ ap (λ (x : Seen). x .site) (settle-accepted (crashDone s (seenAt t (Step.Crash s))) (seenAt t (Step.Crash s)) crash-decided))
 
+  -- a visit that is there and that the slot's own turn hits
+  struck-visit :
+      (p : ℕ) → p < 16 → visitAt t (s % 8) p .there ≡ true
+      → ((seen : Seen) → seen .passage ≡ passageAt t p → seen .visit ≡ visitAt t (s % 8) p → (losesHome s (seen .passage) || not (seen .visit .prepared)) ≡ true)
+      → Dead (siteAt (stepOf t (Step.Crash s) .tables) (s % 8) .clock) (visitAt (stepOf t (Step.Crash s) .tables) (s % 8) p)
+  unfolding crashedSlot
+  struck-visit p slot e hit =
+      slot-after t (Step.Crash s) z crash-stays a crash-many p slot
+      (λ x v. Dead (siteAt (stepOf t (Step.Crash s) .tables) (s % 8) .clock) v)
+      (λ seen c x v.
+      rw
+      (sym c)
+      (quieted-dead (seen .visit) (seen .site .clock) (losesHome s (seen .passage) || not (seen .visit .prepared)) (rw v e) (hit seen x v)))
+
   crash-slot : (p : ℕ) → p < 16 → Struck t (stepOf t (Step.Crash s) .tables) (s % 8) p
   unfolding crashedSlot
   crash-slot p slot =
       record {
-        unprepared = λ e f.
-            slot-after t (Step.Crash s) z crash-stays a crash-many p slot
-            (λ x v. Dead (siteAt (stepOf t (Step.Crash s) .tables) (s % 8) .clock) v)
-            (λ seen c x v.
-            rw
-            (sym c)
-            (quieted-dead
-            (seen .visit)
-            (seen .site .clock)
-            (losesHome s (seen .passage) || not (seen .visit .prepared))
-            (rw v e)
-            (or-true (losesHome s (seen .passage)) (not (seen .visit .prepared)) (rw (v, f)))));
+        unprepared = λ e f. struck-visit p slot e (λ seen x v. or-true (losesHome s (seen .passage)) (not (seen .visit .prepared)) (rw (v, f)));
         aborted = λ r h.
             slot-after t (Step.Crash s) z crash-stays a crash-many p slot
             (λ x v. x .status ≡ Status.Aborted)
@@ -116,18 +119,7 @@ module _ (t : Tables) (s : ℕ) (z : Sound t) (a : isAccepted (stepOf t (Step.Cr
             slot-after t (Step.Crash s) z crash-stays a crash-many p slot
             (λ x v. x .round .phase ≡ Phase.None)
             (λ seen c x v. rw (loses-home s (seen .passage) (rw x r) (rw x h ∙ crash-here)));
-        homeless = λ r h e.
-            slot-after t (Step.Crash s) z crash-stays a crash-many p slot
-            (λ x v. Dead (siteAt (stepOf t (Step.Crash s) .tables) (s % 8) .clock) v)
-            (λ seen c x v.
-            rw
-            (sym c)
-            (quieted-dead
-            (seen .visit)
-            (seen .site .clock)
-            (losesHome s (seen .passage) || not (seen .visit .prepared))
-            (rw v e)
-            (rw (loses-home s (seen .passage) (rw x r) (rw x h ∙ crash-here)))));
+        homeless = λ r h e. struck-visit p slot e (λ seen x v. rw (loses-home s (seen .passage) (rw x r) (rw x h ∙ crash-here)));
       }
     where
       or-true : (b c : Bool) → c ≡ true → (b || c) ≡ true

@@ -172,40 +172,19 @@ module _ (t : Tables) (step : Step) (z : Sound t) (stays : Stays step) where
         (λ g. let i : 16 ≤ p = rw many at (g .0) in absurd (omega arith))
         (through .place)
       where
-        through :
-            Through
-            (lookOf step .trip)
-            p
-            slot
-            (siteAt (headOf t step .tables) At)
-            (passageAt t p)
-            (visitAt t At p)
-            Q
-            (λ seen e f g. own seen (e ∙ sym station-after) f g)
-            (turnsOf t step)
-            (stepOf t step .tables)
+        -- from the station as the step's own store left it
+        brought :
+            (seen : Seen) → seen .site ≡ siteAt (headOf t step .tables) At → seen .passage ≡ passageAt t p → seen .visit ≡ visitAt t At p
+            → Q (turnSeen (lookOf step .trip) p seen .passage) (turnSeen (lookOf step .trip) p seen .visit)
+        brought seen e f g = own seen (e ∙ sym station-after) f g
+
+        through : Through (lookOf step .trip) p slot _ _ _ Q brought (turnsOf t step) (stepOf t step .tables)
         through =
             sound-accepted-has
             t
             step
             z
-            (Through
-            (lookOf step .trip)
-            p
-            slot
-            (siteAt (headOf t step .tables) At)
-            (passageAt t p)
-            (visitAt t At p)
-            Q
-            (λ seen e f g. own seen (e ∙ sym station-after) f g))
-            (through-turn
-            (lookOf step .trip)
-            p
-            slot
-            (siteAt (headOf t step .tables) At)
-            (passageAt t p)
-            (visitAt t At p)
-            Q
-            (λ seen e f g. own seen (e ∙ sym station-after) f g))
+            (Through (lookOf step .trip) p slot _ _ _ Q brought)
+            (through-turn (lookOf step .trip) p slot _ _ _ Q brought)
             (λ e. record { station = refl; place = inr (omega arith, (head-passage p, head-visit At p slot)) })
             a
