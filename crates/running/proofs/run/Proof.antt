@@ -222,7 +222,11 @@ loop-again c =
     let loop = opened .loop in
     let part = opened .before .before .before .before .args .part .now in
     let j =
-    outcome-next part (loop .i) (loop .t) (found .record-at .result) (read .read-record .result) (record { answer = work .answer; tables = work .t }) (loop .inv .0) (found .record-at .ensures) (read .read-record .ensures .0)
+    outcome-next part (loop .i) (loop .t) (found .record-at .result) (read .read-record .result)
+    (record { answer = work .answer; tables = work .t })
+    (loop .inv .0)
+    (found .record-at .ensures)
+    (read .read-record .ensures .0)
     (working-done (loop .t) (read .read-record .result) (work .t) (work .answer) (work .turn) (work .last) (work .inv) (omega arith)) in
     (j .0, answered-next part _ (loop .out) _ (loop .i) (work .answer) (loop .inv .1) (put .ensures) (j .1), omega arith, put .kept .0 ∙ loop .inv .3)
 

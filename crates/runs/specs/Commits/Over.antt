@@ -131,7 +131,11 @@ over-below : (t : Tables) (p : ℕ) → Sound t → isOver (passageAt t p .statu
 over-below t p z over =
     ⊎-elim
     (λ b. ltb-true p 16 b)
-    (λ b. absurd (false≢true (ap (λ (x : Passage). isOver (x .status)) (sym (past-reads (t .passages) p pastPassage (rw (z .sized .passages) (ltb-false p 16 b)))) ∙ over)))
+    (λ b.
+    absurd
+    (false≢true
+    (ap (λ (x : Passage). isOver (x .status)) (sym (past-reads (t .passages) p pastPassage (rw (z .sized .passages) (ltb-false p 16 b))))
+    ∙ over)))
     (either (ltb p 16))
 
 -- in every run: a passage that is committed or aborted is so after any further steps, until an accepted retire of its slot

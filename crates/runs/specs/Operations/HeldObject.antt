@@ -1,4 +1,5 @@
--- What a step does to an object that a passage holds: it stays, its own passage operates it, a commit's word frees it with its value, or a sweep that is due undoes it.
+-- What a step does to an object that a passage holds:
+-- it stays, its own passage operates it, a commit's word frees it with its value, or a sweep that is due undoes it.
 -- Assumes nothing.
 use Prim.Native.Nat.{ℕ, _%_, _<_}
 use mathlib.Core.Path.{_≡_, refl, sym, ap, _∙_, subst}

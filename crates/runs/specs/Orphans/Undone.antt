@@ -70,7 +70,9 @@ value-is-rest {t₀} fresh ss k e = rw (rest-is-standing fresh ss k, e)
 -- ---- one more step
 
 -- the step leaves this width at rest
-pub rest-after-step : {t₀ : Tables} → Started t₀ → (ss : List Step) (s : Step) (k : ℕ) → restOf t₀ (ss ++ (s ∷ [])) k ≡ standing (objectAt (stepOf (runOf t₀ ss) s .tables) k)
+pub rest-after-step :
+    {t₀ : Tables} → Started t₀ → (ss : List Step) (s : Step) (k : ℕ)
+    → restOf t₀ (ss ++ (s ∷ [])) k ≡ standing (objectAt (stepOf (runOf t₀ ss) s .tables) k)
 unfolding runOf
 rest-after-step {t₀} fresh ss s k = rest-is-standing fresh (ss ++ (s ∷ [])) k ∙ ap (λ (t : Tables). standing (objectAt t k)) (run-on t₀ ss (s ∷ []))
 

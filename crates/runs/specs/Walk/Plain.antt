@@ -1,4 +1,5 @@
--- Plain facts that several families of laws share: a choice whose test is known, a list that repeats one record, and a place past a list's end. Assumes nothing.
+-- Plain facts that several families of laws share: a choice whose test is known, a list that repeats one record, and a place past a list's end.
+-- Assumes nothing.
 use Prim.Native.Nat.{ℕ, zero, suc, _≤_}
 use native.Mathlib.Omega.{arith}
 use native.Mathlib.Nat.{not-suc-le-zero}

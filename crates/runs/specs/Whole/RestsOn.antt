@@ -140,7 +140,11 @@ commit-rests-on-what-stands {t₀} fresh before s between commit p k e r not-yet
     now = runOf t₀ ss
 
     slot : p < 16
-    slot = held-below (stepOf (runOf t₀ before) s .tables) p k (held-step (runOf t₀ before) s (held-run fresh before)) (operated-is-held (runOf t₀ before) p k s (held-run fresh before .sound) e) .0
+    slot =
+        held-below (stepOf (runOf t₀ before) s .tables) p k
+        (held-step (runOf t₀ before) s (held-run fresh before))
+        (operated-is-held (runOf t₀ before) p k s (held-run fresh before .sound) e)
+        .0
 
     below : k < 32
     below = operated-below (runOf t₀ before) p k s (held-run fresh before .sound) e

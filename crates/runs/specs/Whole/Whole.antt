@@ -1,4 +1,5 @@
--- The pair stands or falls together: only the holder's own commit changes a width that stands, and no step changes that of an object which an aborted passage holds.
+-- The pair stands or falls together: only the holder's own commit changes a width that stands,
+-- and no step changes that of an object which an aborted passage holds.
 -- (What a sweep frees has its old width again, `figures-undone`; what a commit lets stand is `commit-is-whole`.) Assumes nothing.
 use Prim.Native.Nat.{ℕ, _<_}
 use mathlib.Core.Path.{_≡_, refl, sym, ap, _∙_, subst}

@@ -5,11 +5,15 @@ use Rattle.saying.proofs.line.put_record.Tie as tie
 
 returns : tie.Need-returns
 unfolding recordText
-returns c = rw (← c .before .before .before .before .before .before .read-record .ensures .0, c .before .before .before .before .enum-told .given .1) (c .before .before .put-raw .ensures)
+returns c =
+    let told = c .before .before .before .before in
+    rw (← told .before .before .read-record .ensures .0, told .enum-told .given .1) (c .before .before .put-raw .ensures)
 
 returns-2 : tie.Need-returns-2
 unfolding recordText
-returns-2 c = rw (← c .before .before .before .before .before .before .before .read-record .ensures .0, c .before .before .before .before .before .s .given .1) (c .before .before .put-step .ensures)
+returns-2 c =
+    let known = c .before .before .before .before .before in
+    rw (← known .before .before .read-record .ensures .0, known .s .given .1) (c .before .before .put-step .ensures)
 
 pub put-record-spec : {M : Type 1} → statement M
 put-record-spec =
