@@ -6,4 +6,5 @@ pub mod Pledged
 pub mod Since
 pub mod Over
 pub mod Telling
+pub mod Told
 pub mod Word

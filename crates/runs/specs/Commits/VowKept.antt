@@ -326,7 +326,7 @@ module _ (w : View) (l : Ledger) (a k c source : ℕ) (v : Visit) (m : Message) 
             two;
         answers = λ y. absurd (true≢false (sym y ∙ silent));
       })
-  vow-moved p none (Move.Begins free status round i y) =
+  vow-moved p none (Move.Begins free status round unmarked i y) =
       vow-silent p (rw (status, round)) round
       (put-all (w .mail) k m (λ j x. x .body ≡ Body.Empty) (ap (λ (x : Message). x .body) y ∙ h .free free .mail k) (λ j n. h .free free .mail j))
   vow-moved p none (Move.Retires g status round x i) = vow-silent p (rw status tt) round (none status)
@@ -346,7 +346,7 @@ module _ (w : View) (l : Ledger) (a k c source : ℕ) (v : Visit) (m : Message) 
       made-there : (w .visit a .there ≡ true) ⊎ (w .visit a .there ≡ false) → calledVisit call (w .visit a) .there ≡ true
       made-there (inl q) = when-true (λ (z : Visit). z .there ≡ true) (w .visit a .there) (w .visit a) _ q q
       made-there (inr q) = when-false (λ (z : Visit). z .there ≡ true) (w .visit a .there) (w .visit a) _ q refl
-  vow-moved p none (Move.Replies n asked body e was below x i silent reply) =
+  vow-moved p none (Move.Replies n asked body e was live below x i silent reply) =
       vow-stays p (as-it-was p e) (here-asked n asked body was below x)
       (record { word = λ y. absurd (true≢false (sym y ∙ silent)); answers = λ y. reply y .1 ∙ ap (λ (z : Passage). z .home) (sym e) })
   vow-moved p none (Move.Hears n told body e was x i y) = vow-stays p (as-it-was p e) (here-told n told body x) (sent-empty p y)

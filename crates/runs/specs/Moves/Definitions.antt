@@ -5,11 +5,11 @@
 use Prim.Native.Nat.{ℕ, _+_, _<_, _≤_}
 use mathlib.Core.Path.{_≡_}
 use mathlib.Core.Logic.{_⊎_}
-use mathlib.Core.Bool.{Bool, true, false, cond}
+use mathlib.Core.Bool.{Bool, true, false, cond, _&&_}
 use lib.Dec.{eqb}
 use Rattle.rules.specs.declared.looking.Trip.{Trip}
 use Rattle.rules.specs.Tables.{noVisit, noRound, noMessage}
-use Rattle.rules.specs.Parts.{isActive, isRunning, isClosed, abortedPassage, withRound, withAnswer, whereThere, quieted, countReceived, askedOf, askedVisit, toldVisit}
+use Rattle.rules.specs.Parts.{isActive, isRunning, isClosed, abortedPassage, withRound, withAnswer, whereThere, quieted, countReceived, askedOf, askedVisit, toldVisit, asksLife}
 use Rattle.rules.specs.Rounds.{roundTold, openedPassage, closedPassage}
 use Rattle.rules.specs.Calls.{calledVisit}
 use Rattle.rules.specs.Record.{isStep}
@@ -24,6 +24,7 @@ use Rattle.runs.specs.Times.Clauses.{sentFigures}
 pub record Alike (v x : Visit) : Type 0 where
   pub there : x .there ≡ v .there
   pub prepared : x .prepared ≡ v .prepared
+  pub dead : x .dead ≡ v .dead
   pub round : x .round ≡ v .round
   pub quiesce : x .quiesce ≡ v .quiesce
   pub release : x .release ≡ v .release
@@ -58,7 +59,7 @@ pub data Move (step : Step) (w : View) (a k : ℕ) (p : Passage) (v : Visit) (c 
       → (carriesCommit (m .body) ≡ true → (isPrepare (w .passage .round .kind) ≡ true) × (m .stamp ≡ c))
       → Move step w a k p v c m
   Begins :
-      w .passage .status ≡ Status.Free → p .status ≡ Status.Active → p .round ≡ noRound → w .clock a ≤ c
+      w .passage .status ≡ Status.Free → p .status ≡ Status.Active → p .round ≡ noRound → v .prepared ≡ false → w .clock a ≤ c
       → m ≡ w .mail k → Move step w a k p v c m
   Retires : isStep 16 step ≡ true → p .status ≡ Status.Free → p .round ≡ noRound → v ≡ w .visit a → w .clock a ≤ c → Move step w a k p v c m
   Opens :
@@ -80,10 +81,10 @@ pub data Move (step : Step) (w : View) (a k : ℕ) (p : Passage) (v : Visit) (c 
       (call : Call) → w .mail k .body ≡ Body.Call call → a ≡ w .mail k .destination → p ≡ w .passage
       → v ≡ countReceived (calledVisit call (w .visit a)) → c < calledVisit call (w .visit a) .quiesce
       → w .clock a < c → m ≡ noMessage → Move step w a k p v c m
-  -- a phase 1 message is delivered, away from home, and answered
+  -- a phase 1 message is delivered, away from home, and answered; a refresh and a prepare not to a dead visit
   Replies :
       (n : ℕ) (asked : Asked) → w .mail k .body ≡ Body.PhaseOne n asked → p ≡ w .passage
-      → w .visit a .there ≡ true → w .visit a .round < n → v ≡ askedVisit asked n c (w .visit a)
+      → w .visit a .there ≡ true → (asksLife asked && w .visit a .dead) ≡ false → w .visit a .round < n → v ≡ askedVisit asked n c (w .visit a)
       → w .clock a < c → carriesCommit (m .body) ≡ false
       → (isAnswer (m .body) ≡ true → (m .source ≡ a) × (m .destination ≡ w .passage .home) × (m .stamp ≡ c))
       → Move step w a k p v c m

@@ -75,7 +75,7 @@ aborted-says Status.Aborted e = refl
 aborted-says Status.Committed e = absurd (false≢true e)
 
 alike-same : (v : Visit) → Alike v v
-alike-same v = record { there = refl; prepared = refl; round = refl; quiesce = refl; release = refl }
+alike-same v = record { there = refl; prepared = refl; dead = refl; round = refl; quiesce = refl; release = refl }
 
 empty-plain : PlainMail noMessage
 empty-plain = record { commit = refl; answer = refl }
@@ -202,6 +202,7 @@ module _ (t : Tables) (at : Places) (m : ℕ) (l : Ledger) (own : slotOf (messag
       (mine (Body.PhaseOne n asked) body refl)
       (rw away)
       (not-false _ (fine .there))
+      (fine .early)
       (leb-false _ _ (fine .round))
       refl
       (omega arith)
@@ -290,11 +291,11 @@ module _ (t : Tables) (range : inRange t ≡ true) (l : Ledger) where
   move-of (Step.Tick site n) h e = site-move t l (Step.Tick site n) (tickDone site n) e refl refl refl (omega arith)
   move-of (Step.Begin home slot q r) h e =
       step-settled t (Step.Begin home slot q r) (beginDone home slot q r) e
-      (Move.Begins (free-says _ (not-false _ (accepted-fine _ _ e .state))) refl refl (omega arith) refl)
+      (Move.Begins (free-says _ (not-false _ (accepted-fine _ _ e .state))) refl refl refl (omega arith) refl)
   move-of (Step.Invoke h site write object value) k e =
       plain-move t l (Step.Invoke h site write object value) (invokeDone h site write object value _) e
       refl
-      (record { there = refl; prepared = refl; round = refl; quiesce = refl; release = refl })
+      (record { there = refl; prepared = refl; dead = refl; round = refl; quiesce = refl; release = refl })
       (omega arith)
       (record { commit = refl; answer = refl })
   move-of (Step.Refresh h q r) k e =

@@ -57,7 +57,7 @@ module _ (t : Tables) (step : Step) (h site : ℕ) (body : Body) (checks : List 
   abbrev Sent : Seen
   Sent = sending checks body h site (placesAt t step .message) (seenAt t step) .left
 
-  sent-left : stepOf t step .tables ≡ stored t (placesAt t step) Sent
+  pub sent-left : stepOf t step .tables ≡ stored t (placesAt t step) Sent
   sent-left =
       single-stored t step alone a
       ∙ ap (λ (d : Decision). stored t (placesAt t step) (d .left)) sends

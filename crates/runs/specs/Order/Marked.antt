@@ -260,7 +260,7 @@ module _ (x s : ℕ) where
         let kind : w .passage .round .kind ≡ Kind.Prepare = prepare-says (w .passage .round .kind) (word y .0) in
         let late : x ≤ w .clock a = subst (λ (z : ℕ). x ≤ w .clock z) (sym home) (o .tells kind two) in
         rw (word y .1) (omega arith))
-    heard-moved p (Move.Begins free status round j z) u = absurd (false≢true (sym (h .free free .ledger s) ∙ o .seen))
+    heard-moved p (Move.Begins free status round unmarked j z) u = absurd (false≢true (sym (h .free free .ledger s) ∙ o .seen))
     heard-moved p (Move.Retires g status round y j) u = absurd (true≢false (sym (ap isFree status) ∙ u))
     heard-moved p (Move.Opens kind from home was e y j z) u = subst (λ (q : Passage). Heard (Left q)) (sym e) (heard-opened kind from home z)
     heard-moved p (Move.Closes home one closed e y j z) u =
@@ -272,7 +272,7 @@ module _ (x s : ℕ) where
         (same-word z))
     heard-moved p (Move.Aborts runs e y j z) u = subst (λ (q : Passage). Heard (Left q)) (sym e) (heard-struck true z)
     heard-moved p (Move.Receives call body at e y early j z) u = heard-stays p e (silent-answer z) (silent-word z)
-    heard-moved p (Move.Replies n asked body e was below y j silent reply) u =
+    heard-moved p (Move.Replies n asked body e was live below y j silent reply) u =
         heard-stays p e
         (λ b r q kind answer number source.
         let said = reply (ap isAnswer answer) in
