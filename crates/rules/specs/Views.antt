@@ -9,8 +9,9 @@ use Rattle.rules.specs.Types.{Passage, Call, Asked, Told, Body, Step, Ch
 use Rattle.rules.specs.Tables.{generationOf}
 use Rattle.rules.specs.Parts.{isFree, isEmpty}
 use Rattle.rules.specs.Answers.{isAccepted, firstOf, settleOf}
-use Rattle.rules.specs.LoopsLaws.{either, cond-keeps}
+use Rattle.rules.specs.LoopsLaws.{either, cond-keeps, not-false}
 use Rattle.rules.specs.AnswersLaws.{Fine, accepted-fine}
+use Rattle.rules.specs.FineLaws.{invoke-empty}
 use Rattle.rules.specs.Stations.{tickOf, sweepOf, crashOf, recoverOf}
 use Rattle.rules.specs.Passages.{beginOf, abortOf, retireOf}
 use Rattle.rules.specs.Rounds.{openOf, refreshOf, terminateOf, prepareOf, askOf, closeOf, tellOf}
@@ -100,11 +101,21 @@ pub data Handle : Step → Type 0 where
       → Handle step
   Nameless : (step : Step) → isNamed (rowOf (flatOf step .code)) 8 ≡ false → Handle step
 
+-- of the message slot that a step looks at: a delivery and a drop are for the message there, an invoke, an ask and a tell find it empty, any other step leaves it
+pub data Post : Step → Type 0 where
+  Delivers : (m : ℕ) → Post (Step.Deliver m)
+  Drops : (m : ℕ) → Post (Step.Drop m)
+  Sends :
+      (step : Step) → ((found : Found) (seen : Seen) → isAccepted (decideOf step found seen .answer) ≡ true → isEmpty (seen .message .body) ≡ true)
+      → Post step
+  Stays : (step : Step) → Leaves (λ s. s .message) step → Post step
+
 pub record Deed (step : Step) : Type 0 where
   pub objects : Objects step
   pub generation : Generation step
   pub marks : Marks step
   pub clock : Clock step
+  pub post : Post step
   pub goes : Goes step
   pub handle : Handle step
 
@@ -158,6 +169,7 @@ deedOf (Step.Tick site n) =
       generation = Generation.Stays _ refl (λ found seen. same (λ s. s .passage .generation) _ _ seen _ refl);
       marks = Marks.Stay _ (λ found seen. same (λ s. s .visit .there) _ _ seen _ refl) (λ found seen. same (λ s. s .visit .prepared) _ _ seen _ refl);
       clock = Clock.Ticks site n;
+      post = Post.Stays _ (λ found seen. same (λ s. s .message) _ _ seen _ refl);
       goes = Goes.Nowhere _ refl;
       handle = Handle.Nameless _ refl;
     }
@@ -167,6 +179,7 @@ deedOf (Step.Begin home slot q r) =
       generation = Generation.Stays _ refl (λ found seen. same (λ s. s .passage .generation) _ _ seen _ refl);
       marks = Marks.Begins home slot q r;
       clock = Clock.Moves _ refl (λ found seen e. settled-accepted (λ s. s .site .clock ≡ seen .site .clock + 1) _ _ seen _ (λ f. refl) e);
+      post = Post.Stays _ (λ found seen. same (λ s. s .message) _ _ seen _ refl);
       goes = Goes.Nowhere _ refl;
       handle = Handle.Nameless _ refl;
     }
@@ -176,6 +189,7 @@ deedOf (Step.Invoke h site write object value) =
       generation = Generation.Stays _ refl (λ found seen. same (λ s. s .passage .generation) _ _ seen _ refl);
       marks = Marks.Stay _ (λ found seen. same (λ s. s .visit .there) _ _ seen _ refl) (λ found seen. same (λ s. s .visit .prepared) _ _ seen _ refl);
       clock = Clock.Moves _ refl (λ found seen e. settled-accepted (λ s. s .site .clock ≡ seen .site .clock + 1) _ _ seen _ (λ f. refl) e);
+      post = Post.Sends _ (λ found seen e. invoke-empty h site write object value seen (accepted-fine _ _ e));
       goes = Goes.Nowhere _ refl;
       handle = Handle.Named _ refl (λ found seen e. accepted-fine _ _ e .found);
     }
@@ -185,6 +199,7 @@ deedOf (Step.Refresh h q r) =
       generation = Generation.Stays _ refl (λ found seen. same (λ s. s .passage .generation) _ _ seen _ refl);
       marks = Marks.Stay _ (λ found seen. same (λ s. s .visit .there) _ _ seen _ refl) (λ found seen. same (λ s. s .visit .prepared) _ _ seen _ refl);
       clock = Clock.Moves _ refl (λ found seen e. settled-accepted (λ s. s .site .clock ≡ seen .site .clock + 1) _ _ seen _ (λ f. refl) e);
+      post = Post.Stays _ (λ found seen. same (λ s. s .message) _ _ seen _ refl);
       goes = Goes.Nowhere _ refl;
       handle = Handle.Named _ refl (λ found seen e. accepted-fine _ _ e .found);
     }
@@ -194,6 +209,7 @@ deedOf (Step.Terminate h) =
       generation = Generation.Stays _ refl (λ found seen. same (λ s. s .passage .generation) _ _ seen _ refl);
       marks = Marks.Terminates h;
       clock = Clock.Moves _ refl (λ found seen e. settled-accepted (λ s. s .site .clock ≡ seen .site .clock + 1) _ _ seen _ (λ f. refl) e);
+      post = Post.Stays _ (λ found seen. same (λ s. s .message) _ _ seen _ refl);
       goes = Goes.Nowhere _ refl;
       handle = Handle.Named _ refl (λ found seen e. accepted-fine _ _ e .found);
     }
@@ -203,6 +219,7 @@ deedOf (Step.Prepare h) =
       generation = Generation.Stays _ refl (λ found seen. same (λ s. s .passage .generation) _ _ seen _ refl);
       marks = Marks.Prepares h;
       clock = Clock.Moves _ refl (λ found seen e. settled-accepted (λ s. s .site .clock ≡ seen .site .clock + 1) _ _ seen _ (λ f. refl) e);
+      post = Post.Stays _ (λ found seen. same (λ s. s .message) _ _ seen _ refl);
       goes = Goes.Nowhere _ refl;
       handle = Handle.Named _ refl (λ found seen e. accepted-fine _ _ e .found);
     }
@@ -212,6 +229,7 @@ deedOf (Step.Ask h site) =
       generation = Generation.Stays _ refl (λ found seen. same (λ s. s .passage .generation) _ _ seen _ refl);
       marks = Marks.Stay _ (λ found seen. same (λ s. s .visit .there) _ _ seen _ refl) (λ found seen. same (λ s. s .visit .prepared) _ _ seen _ refl);
       clock = Clock.Moves _ refl (λ found seen e. settled-accepted (λ s. s .site .clock ≡ seen .site .clock + 1) _ _ seen _ (λ f. refl) e);
+      post = Post.Sends _ (λ found seen e. not-false _ (accepted-fine _ _ e .room));
       goes = Goes.Nowhere _ refl;
       handle = Handle.Named _ refl (λ found seen e. accepted-fine _ _ e .found);
     }
@@ -221,6 +239,7 @@ deedOf (Step.Close h) =
       generation = Generation.Stays _ refl (λ found seen. same (λ s. s .passage .generation) _ _ seen _ refl);
       marks = Marks.Closes h;
       clock = Clock.Moves _ refl (λ found seen e. settled-accepted (λ s. s .site .clock ≡ seen .site .clock + 1) _ _ seen _ (λ f. refl) e);
+      post = Post.Stays _ (λ found seen. same (λ s. s .message) _ _ seen _ refl);
       goes = Goes.Nowhere _ refl;
       handle = Handle.Named _ refl (λ found seen e. accepted-fine _ _ e .found);
     }
@@ -230,6 +249,7 @@ deedOf (Step.Tell h site) =
       generation = Generation.Stays _ refl (λ found seen. same (λ s. s .passage .generation) _ _ seen _ refl);
       marks = Marks.Stay _ (λ found seen. same (λ s. s .visit .there) _ _ seen _ refl) (λ found seen. same (λ s. s .visit .prepared) _ _ seen _ refl);
       clock = Clock.Moves _ refl (λ found seen e. settled-accepted (λ s. s .site .clock ≡ seen .site .clock + 1) _ _ seen _ (λ f. refl) e);
+      post = Post.Sends _ (λ found seen e. not-false _ (accepted-fine _ _ e .room));
       goes = Goes.Nowhere _ refl;
       handle = Handle.Named _ refl (λ found seen e. accepted-fine _ _ e .found);
     }
@@ -239,6 +259,7 @@ deedOf (Step.Abort h) =
       generation = Generation.Stays _ refl (λ found seen. same (λ s. s .passage .generation) _ _ seen _ refl);
       marks = Marks.Aborts h;
       clock = Clock.Moves _ refl (λ found seen e. settled-accepted (λ s. s .site .clock ≡ seen .site .clock + 1) _ _ seen _ (λ f. refl) e);
+      post = Post.Stays _ (λ found seen. same (λ s. s .message) _ _ seen _ refl);
       goes = Goes.Nowhere _ refl;
       handle = Handle.Named _ refl (λ found seen e. accepted-fine _ _ e .found);
     }
@@ -248,6 +269,7 @@ deedOf (Step.Deliver m) =
       generation = Generation.Stays _ refl (λ found seen. delivered-generation (seen .message .body) m seen);
       marks = Marks.Delivers m;
       clock = Clock.Delivers m (λ found seen e. delivered-clock (seen .message .body) m seen refl e);
+      post = Post.Delivers m;
       goes = Goes.Nowhere _ refl;
       handle = Handle.Nameless _ refl;
     }
@@ -257,6 +279,7 @@ deedOf (Step.Drop m) =
       generation = Generation.Stays _ refl (λ found seen. same (λ s. s .passage .generation) _ _ seen _ refl);
       marks = Marks.Stay _ (λ found seen. same (λ s. s .visit .there) _ _ seen _ refl) (λ found seen. same (λ s. s .visit .prepared) _ _ seen _ refl);
       clock = Clock.Rests _ refl (λ found seen. same (λ s. s .site) _ _ seen _ refl);
+      post = Post.Drops m;
       goes = Goes.Nowhere _ refl;
       handle = Handle.Nameless _ refl;
     }
@@ -266,6 +289,7 @@ deedOf (Step.Sweep site) =
       generation = Generation.Stays _ refl (λ found seen. same (λ s. s .passage .generation) _ _ seen _ refl);
       marks = Marks.Stay _ (λ found seen. same (λ s. s .visit .there) _ _ seen _ refl) (λ found seen. same (λ s. s .visit .prepared) _ _ seen _ refl);
       clock = Clock.Moves _ refl (λ found seen e. settled-accepted (λ s. s .site .clock ≡ seen .site .clock + 1) _ _ seen _ (λ f. refl) e);
+      post = Post.Stays _ (λ found seen. same (λ s. s .message) _ _ seen _ refl);
       goes = Goes.Sweeps site;
       handle = Handle.Nameless _ refl;
     }
@@ -275,6 +299,7 @@ deedOf (Step.Crash site) =
       generation = Generation.Stays _ refl (λ found seen. same (λ s. s .passage .generation) _ _ seen _ refl);
       marks = Marks.Stay _ (λ found seen. same (λ s. s .visit .there) _ _ seen _ refl) (λ found seen. same (λ s. s .visit .prepared) _ _ seen _ refl);
       clock = Clock.Moves _ refl (λ found seen e. settled-accepted (λ s. s .site .clock ≡ seen .site .clock + 1) _ _ seen _ (λ f. refl) e);
+      post = Post.Stays _ (λ found seen. same (λ s. s .message) _ _ seen _ refl);
       goes = Goes.Crashes site;
       handle = Handle.Nameless _ refl;
     }
@@ -284,6 +309,7 @@ deedOf (Step.Recover site) =
       generation = Generation.Stays _ refl (λ found seen. same (λ s. s .passage .generation) _ _ seen _ refl);
       marks = Marks.Stay _ (λ found seen. same (λ s. s .visit .there) _ _ seen _ refl) (λ found seen. same (λ s. s .visit .prepared) _ _ seen _ refl);
       clock = Clock.Moves _ refl (λ found seen e. settled-accepted (λ s. s .site .clock ≡ seen .site .clock + 1) _ _ seen _ (λ f. refl) e);
+      post = Post.Stays _ (λ found seen. same (λ s. s .message) _ _ seen _ refl);
       goes = Goes.Nowhere _ refl;
       handle = Handle.Nameless _ refl;
     }
@@ -293,6 +319,7 @@ deedOf (Step.Retire h) =
       generation = Generation.Retires h;
       marks = Marks.Stay _ (λ found seen. same (λ s. s .visit .there) _ _ seen _ refl) (λ found seen. same (λ s. s .visit .prepared) _ _ seen _ refl);
       clock = Clock.Rests _ refl (λ found seen. same (λ s. s .site) _ _ seen _ refl);
+      post = Post.Stays _ (λ found seen. same (λ s. s .message) _ _ seen _ refl);
       goes = Goes.Nowhere _ refl;
       handle = Handle.Named _ refl (λ found seen e. accepted-fine _ _ e .found);
     }

@@ -5,6 +5,7 @@ pub mod VowKept
 pub mod Pledged
 pub mod Since
 pub mod Over
+pub mod Closes
 pub mod Telling
 pub mod Told
 pub mod Word

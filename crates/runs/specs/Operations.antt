@@ -5,6 +5,7 @@ pub mod Single
 pub mod Operated
 pub mod Invoked
 pub mod Delivered
+pub mod Mail
 pub mod HeldAway
 pub mod LetGo
 pub mod Freed

@@ -3,3 +3,4 @@ pub mod Release
 pub mod RestsOn
 pub mod Whole
 pub mod CommitIsWhole
+pub mod NoCrash

@@ -2,7 +2,7 @@
 -- And a passage becomes committed by the close of its commit round alone. Assumes nothing.
 use Prim.Native.Nat.{ℕ, _<_}
 use mathlib.Core.Path.{_≡_, refl, sym, ap, _∙_, subst}
-use mathlib.Core.Logic.{_≢_, ⊎-elim}
+use mathlib.Core.Logic.{_≢_, ⊎-elim, _⊎_}
 use mathlib.Core.Bool.{true, false, _&&_, true≢false, false≢true}
 use mathlib.Core.List.{List, _++_}
 use lib.Dec.{ltb}
@@ -138,12 +138,17 @@ over-below t p z over =
     ∙ over)))
     (either (ltb p 16))
 
+-- committed or aborted, by the words of document 01 and not by the test of a retire
+abbrev pub IsOver : Status → Type 0
+IsOver s = (s ≡ Status.Committed) ⊎ (s ≡ Status.Aborted)
+
 -- in every run: a passage that is committed or aborted is so after any further steps, until an accepted retire of its slot
 pub over-is-final :
-    {t₀ : Tables} → Started t₀ → (before after : List Step) (p : ℕ) → isOver (passageAt (runOf t₀ before) p .status) ≡ true
+    {t₀ : Tables} → Started t₀ → (before after : List Step) (p : ℕ) → IsOver (passageAt (runOf t₀ before) p .status)
     → isRetired p (historyOf (runOf t₀ before) after) ≡ false
     → passageAt (runOf t₀ (before ++ after)) p .status ≡ passageAt (runOf t₀ before) p .status
-over-is-final {t₀} fresh before after p over kept =
+over-is-final {t₀} fresh before after p ended kept =
+    let over : isOver (passageAt (runOf t₀ before) p .status) ≡ true = ⊎-elim (ap isOver) (ap isOver) ended in
     let slot : p < 16 = over-below (runOf t₀ before) p (sound-run fresh before) over in
     rw
     (run-on t₀ before after)

@@ -5,9 +5,7 @@ use mathlib.Core.Logic.{_≢_}
 use mathlib.Core.Bool.{true, false, false≢true}
 use mathlib.Core.List.{List}
 use Rattle.rules.specs.declared.looking.Trip.{Trip}
-use Rattle.rules.specs.LoopsLaws.{cond-keeps}
 use Rattle.rules.specs.Tables.{start, passageAt, messageAt, pastPassage, freeSlot}
-use Rattle.rules.specs.Stations.{isSwept, sweptSlot, crashedSlot}
 use Rattle.rules.specs.Answers.{isAccepted}
 use Rattle.rules.specs.Parts.{isFree}
 use Rattle.rules.specs.Machine.{lookOf, seenOf, decideOf, foundOf, stored, headOf, tripPlaces, turnSeen, turnOf, stepOf}
@@ -19,6 +17,7 @@ use Rattle.runs.specs.Walk.Says.{carriesCommit, isPrepare}
 use Rattle.runs.specs.Walk.Plain.{repeat-has}
 use Rattle.runs.specs.Walk.Put.{put-all}
 use Rattle.runs.specs.Walk.Steps.{placesAt, seenAt, ghostStep, good-after-step, good-after-run}
+use Rattle.runs.specs.Walk.Clocks.{turned-message}
 use Rattle.runs.specs.Times.View.{Ledger, mailOf, viewOf, noLedger}
 use Rattle.runs.specs.Times.Clauses.{Holds}
 use Rattle.runs.specs.Times.Store.{leftView, nextLedger, nextLedgers, Fitting, mail-after-other, own-view, other-view}
@@ -77,13 +76,6 @@ module _ (t : Tables) (at : Places) (left : Seen) (z : Sized t) (h : Placed at) 
       b
 
 -- ---- steps
-
--- a turn leaves the message
-pub turned-message : (trip : Trip) (slot : ℕ) (seen : Seen) → turnSeen trip slot seen .message ≡ seen .message
-unfolding sweptSlot crashedSlot
-turned-message Trip.Nowhere slot seen = refl
-turned-message (Trip.Sweep site) slot seen = cond-keeps (λ (x : Seen). x .message ≡ seen .message) (isSwept seen) _ seen refl refl
-turned-message (Trip.Crash site) slot seen = refl
 
 pub pledged-after-head :
     (t : Tables) (step : Step) (ls : ℕ → Ledger) → Pledged t ls → isAccepted (headOf t step .answer) ≡ true

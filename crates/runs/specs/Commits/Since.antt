@@ -24,7 +24,7 @@ use Rattle.runs.specs.Walk.Plain.{when-false}
 use Rattle.runs.specs.Walk.Put.{put, put-same, put-other, put-back, same-or-other}
 use Rattle.runs.specs.Walk.Steps.{placesAt, seenAt, turnedOf, ghostTurns, accepted-has}
 use Rattle.runs.specs.Walk.Sound.{Sound}
-use Rattle.runs.specs.Walk.Clocks.{turned-site, turn-not-back}
+use Rattle.runs.specs.Walk.Clocks.{turned-site, turned-message, turn-not-back}
 use Rattle.runs.specs.Times.View.{View, Ledger, mailOf, viewOf, noLedger, ledgerNoted}
 use Rattle.runs.specs.Times.Clauses.{Holds}
 use Rattle.runs.specs.Times.Store.{leftView, nextLedgers, nextLedger, Fitting, mail-after-other, own-view, other-view, noted-same}
@@ -34,7 +34,7 @@ use Rattle.runs.specs.Events.HoldSteps.{and-false}
 use Rattle.runs.specs.Moves.Definitions.{Move, Turn}
 use Rattle.runs.specs.Moves.Steps.{MoveAt, move-of, turn-of}
 use Rattle.runs.specs.Commits.Vow.{Vow}
-use Rattle.runs.specs.Commits.Pledged.{Pledged, turned-message, pledged-after-head, pledged-after-turn}
+use Rattle.runs.specs.Commits.Pledged.{Pledged, pledged-after-head, pledged-after-turn}
 
 -- ---- a slot in use stays in use until it is retired
 

@@ -183,7 +183,7 @@ alive-asked Asked.Terminate n c u live m = absurd (false≢true m)
 alive-asked Asked.Prepare n c u live m = live
 
 -- home's word leaves the marks of a visit that stays
-marks-told : (told : Told) (u : Visit) → toldVisit told u .there ≡ true → (toldVisit told u .prepared ≡ u .prepared) × (toldVisit told u .dead ≡ u .dead)
+pub marks-told : (told : Told) (u : Visit) → toldVisit told u .there ≡ true → (toldVisit told u .prepared ≡ u .prepared) × (toldVisit told u .dead ≡ u .dead)
 marks-told (Told.Refresh q) u e = (refl, refl)
 marks-told (Told.Terminate m) u e = (refl, refl)
 marks-told Told.Prepare u e = absurd (false≢true e)

@@ -26,6 +26,10 @@ prepare-says Kind.Prepare y = refl
 pub committed-tells : (p : Passage) → RoundFits p → p .status ≡ Status.Committed → (p .round .kind ≡ Kind.Prepare) × (p .round .phase ≡ Phase.Two)
 committed-tells p f e = subst (λ (s : Status). RoundFor s (p .round .kind) (p .round .phase)) e f
 
+-- a committing one is asking
+pub committing-asks : (p : Passage) → RoundFits p → p .status ≡ Status.Committing → (p .round .kind ≡ Kind.Prepare) × (p .round .phase ≡ Phase.One)
+committing-asks p f e = subst (λ (s : Status). RoundFor s (p .round .kind) (p .round .phase)) e f
+
 -- a running one is not committed
 pub running-not-committed : (s : Status) → isRunning s ≡ true → s ≡ Status.Committed → ⊥
 running-not-committed s r e = false≢true (sym (ap isRunning e) ∙ r)

@@ -56,6 +56,11 @@ pub record StillOpen (t : Tables) (site slot : ℕ) : Type 0 where
   pub early : siteAt t site .clock < visitAt t site slot .quiesce
   pub alive : visitAt t site slot .dead ≡ false
 
+-- what a station needs before it: it is up, and the passage's visit there, if it has one, is not dead
+pub record Living (t : Tables) (site slot : ℕ) : Type 0 where
+  pub up : siteAt t site .up ≡ true
+  pub alive : visitAt t site slot .there ≡ true → visitAt t site slot .dead ≡ false
+
 -- ---- a call as it was sent
 
 -- the message that an invoke h, a=site, b, c=k, u left in this place, by the fields of the step, the visit before it and the clock after it

@@ -20,7 +20,7 @@ use Rattle.rules.specs.StoredLaws.{site-after-stored, visit-after-stored, messa
 use Rattle.runs.specs.Types.{Site, Visit, Message, Tables, Step, Places, Seen}
 use Rattle.runs.specs.Walk.Steps.{placesAt, seenAt}
 use Rattle.runs.specs.Walk.Sound.{Sound}
-use Rattle.runs.specs.Operations.Definitions.{StillOpen, SaysCall, SameTimes}
+use Rattle.runs.specs.Operations.Definitions.{StillOpen, Living, SaysCall, SameTimes}
 use Rattle.runs.specs.Operations.Single.{decision-accepted, single-answer, single-stored}
 
 module _ (t : Tables) (h site b k u : ℕ) (z : Sound t) (a : isAccepted (stepOf t (Step.Invoke h site b k u) .answer) ≡ true) where
@@ -122,6 +122,15 @@ module _ (t : Tables) (h site b k u : ℕ) (z : Sound t) (a : isAccepted (stepOf
   pub nothing-sent-after-quiesce : StillOpen (stepOf t (Step.Invoke h site b k u) .tables) site (slotOf h)
   unfolding placesOf
   nothing-sent-after-quiesce = rw here at still-open
+
+  living-before : Living t (At .site) (At .slot)
+  living-before =
+      record { up = not-false _ (fine .up); alive = λ e. or-right (leb (Saw .visit .quiesce) (nextClock (Saw .site))) _ (fine .early) }
+
+  -- and before it the station is up, and the visit is not dead
+  pub sent-while-living : Living t site (slotOf h)
+  unfolding placesOf
+  sent-while-living = rw here at living-before
 
   same-times : SameTimes (visitAt t (At .site) (At .slot)) (visitAt (stepOf t Done .tables) (At .site) (At .slot))
   same-times = rw visit-left (record { quiesce = refl; release = refl; round = refl })

@@ -31,7 +31,7 @@ use Rattle.runs.specs.Walk.Steps.{placesAt, seenAt}
 use Rattle.runs.specs.Walk.Sound.{Sound}
 use Rattle.runs.specs.Holders.HeldStore.{Held}
 use Rattle.runs.specs.Orphans.Rests.{standing, standing-after-call}
-use Rattle.runs.specs.Operations.Definitions.{mailNamed, callsFor, operates, isWrite, toWrite, saidQuiesce, saidRelease, operatedAt, StillOpen}
+use Rattle.runs.specs.Operations.Definitions.{mailNamed, callsFor, operates, isWrite, toWrite, saidQuiesce, saidRelease, operatedAt, StillOpen, Living}
 use Rattle.runs.specs.Operations.Single.{decisionAt, accepted-seen, decision-accepted, single-answer, single-stored}
 
 -- ---- an accepted delivery of a call
@@ -125,6 +125,13 @@ module _ (t : Tables) (m : ℕ) (c : Call) (z : Sound t) (a : isAccepted (stepOf
         alive = ap (λ (v : Visit). v .dead) visit-left ∙ or-right (leb (calledVisit c (Saw .visit) .quiesce) (mailClock Saw)) _ (fine .early);
       }
 
+  living-before : Living t (At .site) (At .slot)
+  living-before =
+      record {
+        up = not-false _ (fine .up);
+        alive = λ (e : Saw .visit .there ≡ true). rw e at (or-right (leb (calledVisit c (Saw .visit) .quiesce) (mailClock Saw)) _ (fine .early));
+      }
+
 -- ---- what an operation is
 
 -- all that the laws below say, of the call that the step delivers
@@ -138,6 +145,7 @@ record Operation (t : Tables) (p k : ℕ) (s : Step) : Type 0 where
   after : objectAt (stepOf t s .tables) k ≡ operated call (taken p (objectAt t k))
   others : (j : ℕ) → j ≢ k → objectAt (stepOf t s .tables) j ≡ objectAt t j
   station : Held t → operatedAt t s ≡ objectSite k
+  living : Living t (operatedAt t s) p
   opened : StillOpen (stepOf t s .tables) (operatedAt t s) p
   times :
       (visitAt (stepOf t s .tables) (operatedAt t s) p .quiesce
@@ -170,6 +178,7 @@ module _ (t : Tables) (z : Sound t) where
             λ held.
             let d : messageAt t (m % 32) .destination ≡ c .object / 4 = held .calls (m % 32) c b .0 in
             rw (← o, d) (omega arith);
+        living = rw (← e) (living-before t m c z a b);
         opened = rw (← e) (open-left t m c z a b);
         times =
             rw
@@ -257,6 +266,10 @@ module _ (t : Tables) (p k : ℕ) (s : Step) (z : Sound t) (operating : operates
   -- an operation leaves every other object as it was
   pub others-after-operated : (j : ℕ) → j ≢ k → objectAt (stepOf t s .tables) j ≡ objectAt t j
   others-after-operated = op .others
+
+  -- before an operation the station is up, and the passage's visit there, if it has one, is not dead
+  pub operated-while-living : Living t (operatedAt t s) p
+  operated-while-living = op .living
 
   -- after an operation the station is up, and the passage's visit there is there, not dead, and before its quiesce time
   pub nothing-after-quiesce : StillOpen (stepOf t s .tables) (operatedAt t s) p

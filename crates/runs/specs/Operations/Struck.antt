@@ -3,14 +3,14 @@
 use Prim.Native.Nat.{ℕ, _%_, _<_, _≤_}
 use native.Mathlib.Omega.{arith}
 use mathlib.Core.Path.{_≡_, refl, sym, ap, _∙_, subst}
-use mathlib.Core.Logic.{⊎-elim}
+use mathlib.Core.Logic.{⊎-elim, _⊎_, inl, inr}
 use mathlib.Core.Bool.{Bool, true, false, cond, not, _||_, false≢true}
 use borrow.Author.Tests.{ltb-false, leb-false, eq-eqb}
 use Rattle.rules.specs.LoopsLaws.{either}
 use Rattle.rules.specs.Tables.{siteAt, passageAt, visitAt, messageAt, slotOf}
 use Rattle.rules.specs.Answers.{isAccepted}
 use Rattle.rules.specs.AnswersLaws.{accepted-fine, settle-accepted}
-use Rattle.rules.specs.Parts.{isRunning, quieted, whereThere}
+use Rattle.rules.specs.Parts.{quieted, whereThere}
 use Rattle.rules.specs.Stations.{sweepChecks, sweepDone, sweepOf, isSweepable, isSwept, sweptSlot, crashChecks, crashDone, crashOf, losesHome, crashedSlot}
 use Rattle.rules.specs.Rounds.{openOf, terminateOf}
 use Rattle.rules.specs.Machine.{lookOf, placesOf, decideOf, headOf, stepOf}
@@ -34,14 +34,18 @@ pub record Dead (clock : ℕ) (v : Visit) : Type 0 where
   pub prepared : v .prepared ≡ false
   pub quiesced : v .quiesce ≤ clock
 
--- what a crash of the station does to a slot: to its unprepared visit there, and to its running passage whose home the station is
+-- active or committing, by the words of document 01 and not by a test of the rules
+abbrev pub Runs : Status → Type 0
+Runs s = (s ≡ Status.Active) ⊎ (s ≡ Status.Committing)
+
+-- what a crash of the station does to a slot: to its unprepared visit there, and to its active or committing passage whose home the station is
 pub record Struck (before after : Tables) (s p : ℕ) : Type 0 where
   pub unprepared :
       visitAt before s p .there ≡ true → visitAt before s p .prepared ≡ false → Dead (siteAt after s .clock) (visitAt after s p)
-  pub aborted : isRunning (passageAt before p .status) ≡ true → passageAt before p .home ≡ s → passageAt after p .status ≡ Status.Aborted
-  pub phaseless : isRunning (passageAt before p .status) ≡ true → passageAt before p .home ≡ s → passageAt after p .round .phase ≡ Phase.None
+  pub aborted : Runs (passageAt before p .status) → passageAt before p .home ≡ s → passageAt after p .status ≡ Status.Aborted
+  pub phaseless : Runs (passageAt before p .status) → passageAt before p .home ≡ s → passageAt after p .round .phase ≡ Phase.None
   pub homeless :
-      isRunning (passageAt before p .status) ≡ true → passageAt before p .home ≡ s → visitAt before s p .there ≡ true
+      Runs (passageAt before p .status) → passageAt before p .home ≡ s → visitAt before s p .there ≡ true
       → Dead (siteAt after s .clock) (visitAt after s p)
 
 -- what a crash does: the station is one of the eight and is down after it, and every slot is struck
@@ -62,8 +66,9 @@ quieted-dead v clock hit e h =
     (when-true (Dead clock) hit (quieted v clock false true) v h (record { there = e; dead = refl; prepared = refl; quiesced = omega arith }))
 
 -- a passage that loses its home
-loses-home : (s : ℕ) (p : Passage) → isRunning (p .status) ≡ true → p .home ≡ s → losesHome s p ≡ true
-loses-home s p r e = rw (r, eq-eqb (p .home) s e)
+loses-home : (s : ℕ) (p : Passage) → Runs (p .status) → p .home ≡ s → losesHome s p ≡ true
+loses-home s p (inl r) e = rw (r, eq-eqb (p .home) s e)
+loses-home s p (inr r) e = rw (r, eq-eqb (p .home) s e)
 
 module _ (t : Tables) (s : ℕ) (z : Sound t) (a : isAccepted (stepOf t (Step.Crash s) .answer) ≡ true) where
   crash-stays : Stays (Step.Crash s)
@@ -127,7 +132,7 @@ module _ (t : Tables) (s : ℕ) (z : Sound t) (a : isAccepted (stepOf t (Step.Cr
       or-true false c e = e
 
   -- an accepted crash takes its station down; every unprepared visit there is dead after it, with a quiesce time that has come,
-  -- and every running passage whose home it is is aborted after it, in no phase, and its visit there dead likewise, prepared or not
+  -- and every active or committing passage whose home it is is aborted after it, in no phase, and its visit there dead likewise, prepared or not
   pub crash-strikes : Strikes t (stepOf t (Step.Crash s) .tables) s
   crash-strikes =
       record {

@@ -112,6 +112,13 @@ turned-site Trip.Nowhere slot seen = refl
 turned-site (Trip.Sweep site) slot seen = ⊎-elim (λ e. rw e) (λ e. rw e) (either (isSwept seen))
 turned-site (Trip.Crash site) slot seen = refl
 
+-- and leaves the message
+pub turned-message : (trip : Trip) (slot : ℕ) (seen : Seen) → turnSeen trip slot seen .message ≡ seen .message
+unfolding sweptSlot crashedSlot
+turned-message Trip.Nowhere slot seen = refl
+turned-message (Trip.Sweep site) slot seen = ⊎-elim (λ e. rw e) (λ e. rw e) (either (isSwept seen))
+turned-message (Trip.Crash site) slot seen = refl
+
 pub turn-not-back :
     (trip : Trip) (slot : ℕ) (o : Outcome) → slot < 16 → Sound (o .tables) → (s : ℕ)
     → siteAt (o .tables) s .clock ≤ siteAt (turnOf trip slot o .tables) s .clock

@@ -3,7 +3,7 @@
 -- (What a sweep frees has its old width again, `figures-undone`; what a commit lets stand is `commit-is-whole`.) Assumes nothing.
 use Prim.Native.Nat.{ℕ, _<_}
 use mathlib.Core.Path.{_≡_, refl, sym, ap, _∙_, subst}
-use mathlib.Core.Logic.{_≢_, ⊎-elim}
+use mathlib.Core.Logic.{_≢_, ⊎-elim, inr}
 use mathlib.Core.Bool.{true, false, _&&_, true≢false, false≢true}
 use mathlib.Core.List.{List, [], _∷_, _++_}
 use lib.Dec.{eqb}
@@ -113,7 +113,7 @@ abort-is-whole {t₀} fresh before after step p k aborted kept held =
     (λ e.
     let by = changed-by-its-holder fresh ss step k (eqb-false _ _ e) in
     let same : by .holder ≡ p = one-holder (by .holder) p (objectAt (runOf t₀ ss) k) (by .held) held in
-    let now : passageAt (runOf t₀ ss) p .status ≡ Status.Aborted = over-is-final fresh before after p (ap isOver aborted) kept ∙ aborted in
+    let now : passageAt (runOf t₀ ss) p .status ≡ Status.Aborted = over-is-final fresh before after p (inr aborted) kept ∙ aborted in
     let slot : p < 16 = held-below (runOf t₀ ss) p k (held-run fresh ss) held .0 in
     let still : passageAt (stepOf (runOf t₀ ss) step .tables) p .status ≡ Status.Aborted =
     over-after-step (runOf t₀ ss) (ledgersOf t₀ ss) step p (pledged-run fresh ss) slot
