@@ -1,14 +1,15 @@
--- A message stays as it was sent: a full message slot is left by every step but the delivery and the drop of that slot, of any sound tables.
+-- A message waits as it was sent: a full message slot is left as it was by every step but its own accepted delivery and its own accepted drop, of any sound tables.
 -- So what an invoke says is what is done where its call is delivered, whatever comes between. Assumes nothing.
 use Prim.Native.Nat.{ℕ, _%_, _<_, _≤_}
 use native.Mathlib.Omega.{arith}
 use mathlib.Core.Path.{_≡_, refl, sym, ap, _∙_, subst}
-use mathlib.Core.Logic.{_≢_, ⊎-elim}
+use mathlib.Core.Logic.{_≢_, ⊎-elim, _⊎_, inl, inr}
 use mathlib.Core.Bool.{true, false, true≢false}
-use mathlib.Core.List.{List, [], _∷_}
+use mathlib.Core.List.{List, [], _∷_, _++_}
 use lib.Dec.{eqb}
 use borrow.Author.Tests.{ltb-false, eq-eqb}
 use Rattle.rules.specs.declared.looking.Trip.{Trip}
+use Rattle.rules.specs.LoopsLaws.{either}
 use Rattle.rules.specs.Tables.{messageAt, slotOf}
 use Rattle.rules.specs.Answers.{isAccepted, answerValue}
 use Rattle.rules.specs.AnswersLaws.{accepted-fine}
@@ -17,6 +18,7 @@ use Rattle.rules.specs.Calls.{dropOf}
 use Rattle.rules.specs.Machine.{lookOf, placesOf, seenOf, decideOf, stored, headOf, tripPlaces, turnSeen, turnOf, stepOf}
 use Rattle.rules.specs.RangesLaws.{placed-places, placed-trip}
 use Rattle.rules.specs.StoredLaws.{turn-stored, message-after-stored, message-after-stored-other}
+use Rattle.rules.specs.RefusedLaws.{refused-leaves}
 use Rattle.rules.specs.SettledLaws.{delivered-named}
 use Rattle.rules.specs.Runs.{runOf}
 use Rattle.rules.specs.Views.{Post, deedOf}
@@ -31,31 +33,39 @@ use Rattle.runs.specs.Operations.Invoked.{invoked-says}
 
 -- ---- one step
 
-module _ (t : Tables) (step : Step) (m : ℕ) (z : Sound t) (full : isEmpty (messageAt t m .body) ≡ false)
-    (kept : step ≢ Step.Deliver m) (held : step ≢ Step.Drop m) where
-  -- an accepted delivery or drop of another slot looks at that one
+-- a step that is for another message slot than m, or for none
+abbrev ForOther : (m : ℕ) {step : Step} → Post step → Type 0
+ForOther m (Post.Delivers n) = n ≢ m
+ForOther m (Post.Drops n) = n ≢ m
+ForOther m (Post.Sends step empty) = Unit {0}
+ForOther m (Post.Stays step leaves) = Unit {0}
+
+module _ (t : Tables) (step : Step) (m : ℕ) (z : Sound t) (full : isEmpty (messageAt t m .body) ≡ false) where
+  -- an accepted delivery or drop looks at the slot that it names
   named : (n : ℕ) → n ≤ 31 → m ≡ n % 32 → n ≡ m
   named n l e = omega arith
 
-  own : (x : Step) → Post x → x ≡ step → isAccepted (decisionAt t x .answer) ≡ true → m ≡ placesAt t x .message → decisionAt t x .left .message ≡ seenAt t x .message
+  own :
+      (x : Step) (post : Post x) → ForOther m post → isAccepted (decisionAt t x .answer) ≡ true → m ≡ placesAt t x .message
+      → decisionAt t x .left .message ≡ seenAt t x .message
   unfolding placesOf decideOf dropOf
-  own x (Post.Delivers n) same e at =
-      absurd (kept (sym same ∙ ap Step.Deliver (named n (ltb-false 31 n (delivered-named (messageAt t (n % 32) .body) n (seenAt t x) e)) at)))
-  own x (Post.Drops n) same e at = absurd (held (sym same ∙ ap Step.Drop (named n (ltb-false 31 n (accepted-fine _ _ e .fields)) at)))
-  own x (Post.Sends _ empty) same e at =
+  own x (Post.Delivers n) other e at =
+      absurd (other (named n (ltb-false 31 n (delivered-named (messageAt t (n % 32) .body) n (seenAt t x) e)) at))
+  own x (Post.Drops n) other e at = absurd (other (named n (ltb-false 31 n (accepted-fine _ _ e .fields)) at))
+  own x (Post.Sends _ empty) other e at =
       absurd (true≢false (sym (subst (λ (k : ℕ). isEmpty (messageAt t k .body) ≡ true) (sym at) (empty _ (seenAt t x) e)) ∙ full))
-  own x (Post.Stays _ leaves) same e at = leaves _ (seenAt t x)
+  own x (Post.Stays _ leaves) other e at = leaves _ (seenAt t x)
 
-  head-mail : isAccepted (headOf t step .answer) ≡ true → messageAt (headOf t step .tables) m ≡ messageAt t m
+  head-mail : ForOther m (deedOf step .post) → isAccepted (headOf t step .answer) ≡ true → messageAt (headOf t step .tables) m ≡ messageAt t m
   unfolding headOf
-  head-mail e =
+  head-mail other e =
       ⊎-elim
       (λ (at : m ≡ placesAt t step .message).
       ap (messageAt (stored t (placesAt t step) (decisionAt t step .left))) at
       ∙ message-after-stored t (placesAt t step) _ (z .sized) (placed-places t (lookOf step))
-      ∙ own step (deedOf step .post) refl e at
+      ∙ own step (deedOf step .post) other e at
       ∙ ap (messageAt t) (sym at))
-      (λ other. message-after-stored-other t (placesAt t step) _ m other)
+      (λ apart. message-after-stored-other t (placesAt t step) _ m apart)
       (same-or-other m (placesAt t step .message))
 
   -- a turn of a sweep or a crash leaves every message
@@ -73,31 +83,68 @@ module _ (t : Tables) (step : Step) (m : ℕ) (z : Sound t) (full : isEmpty (mes
       (λ other. message-after-stored-other (o .tables) (tripPlaces trip n) left m other)
       (same-or-other m (tripPlaces trip n .message)))
 
-  -- a full message slot is left as it was by any step but its own delivery and its own drop
-  pub mail-stays : messageAt (stepOf t step .tables) m ≡ messageAt t m
-  mail-stays =
+  mail-left : ForOther m (deedOf step .post) → messageAt (stepOf t step .tables) m ≡ messageAt t m
+  mail-left other =
       sound-step-has t step z (λ n u. messageAt u m ≡ messageAt t m)
       (λ n o l y k. turn-mail (lookOf step .trip) n o l y ∙ k)
-      head-mail
+      (head-mail other)
       (λ u. messageAt u m ≡ messageAt t m)
       refl
       (λ u k. k)
 
+  -- a step is for another slot, or delivers or drops this one
+  for-other : (x : Step) (post : Post x) → ForOther m post ⊎ ((x ≡ Step.Deliver m) ⊎ (x ≡ Step.Drop m))
+  for-other x (Post.Delivers n) = ⊎-elim (λ e. inr (inl (ap Step.Deliver e))) (λ other. inl other) (same-or-other n m)
+  for-other x (Post.Drops n) = ⊎-elim (λ e. inr (inr (ap Step.Drop e))) (λ other. inl other) (same-or-other n m)
+  for-other x (Post.Sends _ empty) = inl tt
+  for-other x (Post.Stays _ leaves) = inl tt
+
+  -- a full message slot is left as it was, or the step is its own delivery or its own drop, and accepted
+  pub mail-stays :
+      (messageAt (stepOf t step .tables) m ≡ messageAt t m)
+      ⊎ ((isAccepted (stepOf t step .answer) ≡ true) × ((step ≡ Step.Deliver m) ⊎ (step ≡ Step.Drop m)))
+  mail-stays =
+      ⊎-elim
+      (λ other. inl (mail-left other))
+      (λ own. ⊎-elim (λ a. inr (a, own)) (λ a. inl (ap (λ (u : Tables). messageAt u m) (refused-leaves t step a))) (either (isAccepted (stepOf t step .answer))))
+      (for-other step (deedOf step .post))
+
 -- ---- a list of steps
 
--- none of them delivers or drops message m
-abbrev pub LeavesMail : ℕ → List Step → Type 0
-LeavesMail m [] = Unit {0}
-LeavesMail m (s ∷ ss) = (s ≢ Step.Deliver m) × (s ≢ Step.Drop m) × LeavesMail m ss
+-- among these steps is one that is accepted and delivers or drops message m; until then the message waits as it was
+pub record TakenUp (t : Tables) (m : ℕ) (steps : List Step) : Type 0 where
+  pub first : List Step
+  pub step : Step
+  pub rest : List Step
+  pub all : steps ≡ first ++ step ∷ rest
+  pub waits : messageAt (runOf t first) m ≡ messageAt t m
+  pub accepted : isAccepted (stepOf (runOf t first) step .answer) ≡ true
+  pub own : (step ≡ Step.Deliver m) ⊎ (step ≡ Step.Drop m)
 
--- so a message waits as it was sent
+-- so a message waits as it was sent, until it is delivered or dropped
 pub mail-waits :
-    (t : Tables) (m : ℕ) (ss : List Step) → Sound t → isEmpty (messageAt t m .body) ≡ false → LeavesMail m ss → messageAt (runOf t ss) m ≡ messageAt t m
+    (t : Tables) (m : ℕ) (ss : List Step) → Sound t → isEmpty (messageAt t m .body) ≡ false → (messageAt (runOf t ss) m ≡ messageAt t m) ⊎ TakenUp t m ss
 unfolding runOf
-mail-waits t m [] z full leaves = refl
-mail-waits t m (s ∷ ss) z full (kept, held, leaves) =
-    let same : messageAt (stepOf t s .tables) m ≡ messageAt t m = mail-stays t s m z full kept held in
-    mail-waits (stepOf t s .tables) m ss (sound-step t s z) (ap (λ (x : Message). isEmpty (x .body)) same ∙ full) leaves ∙ same
+mail-waits t m [] z full = inl refl
+mail-waits t m (s ∷ ss) z full =
+    ⊎-elim
+    (λ same.
+    ⊎-elim
+    (λ e. inl (e ∙ same))
+    (λ g.
+    inr
+    (record {
+      first = s ∷ g .first;
+      step = g .step;
+      rest = g .rest;
+      all = ap (λ (x : List Step). s ∷ x) (g .all);
+      waits = g .waits ∙ same;
+      accepted = g .accepted;
+      own = g .own;
+    }))
+    (mail-waits (stepOf t s .tables) m ss (sound-step t s z) (ap (λ (x : Message). isEmpty (x .body)) same ∙ full)))
+    (λ own. inr (record { first = []; step = s; rest = ss; all = refl; waits = refl; accepted = own .0; own = own .1 }))
+    (mail-stays t s m z full)
 
 -- ---- what is sent is what is done
 
@@ -107,33 +154,22 @@ pub record DoneAsSaid (t : Tables) (h b k u : ℕ) (s : Step) : Type 0 where
   pub operation : isWrite (mailNamed t s .body) ≡ eqb b 1
   pub value : toWrite (mailNamed t s .body) ≡ u
 
--- an accepted invoke, any steps that do not deliver or drop its message, and the accepted delivery of it: the delivery does what the invoke said
+-- an accepted invoke, any steps through which its message waits, and the accepted delivery of it: the delivery does what the invoke said
 pub delivered-as-sent :
     (t : Tables) (h site b k u : ℕ) → Sound t → isAccepted (stepOf t (Step.Invoke h site b k u) .answer) ≡ true
-    → (between : List Step) → LeavesMail (answerValue (stepOf t (Step.Invoke h site b k u) .answer)) between
-    → isAccepted
-    (stepOf
-    (runOf (stepOf t (Step.Invoke h site b k u) .tables) between)
-    (Step.Deliver (answerValue (stepOf t (Step.Invoke h site b k u) .answer)))
-    .answer)
-    ≡ true
-    → DoneAsSaid
-    (runOf (stepOf t (Step.Invoke h site b k u) .tables) between)
-    h
-    b
-    k
-    u
-    (Step.Deliver (answerValue (stepOf t (Step.Invoke h site b k u) .answer)))
-delivered-as-sent t h site b k u z a between leaves taken =
+    → (now : Tables)
+    → messageAt now (answerValue (stepOf t (Step.Invoke h site b k u) .answer))
+    ≡ messageAt (stepOf t (Step.Invoke h site b k u) .tables) (answerValue (stepOf t (Step.Invoke h site b k u) .answer))
+    → isAccepted (stepOf now (Step.Deliver (answerValue (stepOf t (Step.Invoke h site b k u) .answer))) .answer) ≡ true
+    → DoneAsSaid now h b k u (Step.Deliver (answerValue (stepOf t (Step.Invoke h site b k u) .answer)))
+delivered-as-sent t h site b k u z a now waits taken =
     let said = invoked-says t h site b k u z a in
     let sent : Tables = stepOf t (Step.Invoke h site b k u) .tables in
     let place : ℕ = answerValue (stepOf t (Step.Invoke h site b k u) .answer) in
-    let full : isEmpty (messageAt sent place .body) ≡ false = ap isEmpty (said .body) in
     let mail : place % 32 ≡ place = let l : place < 32 = said .place-below in omega arith in
-    let waits : messageAt (runOf sent between) (place % 32) ≡ messageAt sent place =
-    ap (messageAt (runOf sent between)) mail ∙ mail-waits sent place between (sound-step t (Step.Invoke h site b k u) z) full leaves in
+    let same : messageAt now (place % 32) ≡ messageAt sent place = ap (messageAt now) mail ∙ waits in
     record {
-      does = rw (taken, waits, said .handle, said .body, eq-eqb (slotOf h) (slotOf h) refl, said .object, eq-eqb k k refl) refl;
-      operation = rw (waits, said .body) (said .operation);
-      value = rw (waits, said .body) (said .value);
+      does = rw (taken, same, said .handle, said .body, eq-eqb (slotOf h) (slotOf h) refl, said .object, eq-eqb k k refl) refl;
+      operation = rw (same, said .body) (said .operation);
+      value = rw (same, said .body) (said .value);
     }
