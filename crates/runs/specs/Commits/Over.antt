@@ -94,7 +94,8 @@ module _ (s : Status) (over : isOver s ≡ true) where
       {step : Step} {w : View} {a k c : ℕ} {p : Passage} {v : Visit} {m : Message} → RoundFits (w .passage) → w .passage .status ≡ s
       → Move step w a k p v c m → isFree (p .status) ≡ false → p .status ≡ s
   over-moved o x (Move.Rests e y i z) u = ap (λ (q : Passage). q .status) e ∙ x
-  over-moved o x (Move.Tells e y i home two silent word) u = ap (λ (q : Passage). q .status) e ∙ x
+  over-moved o x (Move.Sends d b e was y i z f) u = ap (λ (q : Passage). q .status) e ∙ x
+  over-moved o x (Move.Tells e y i home two silent word uncalled) u = ap (λ (q : Passage). q .status) e ∙ x
   over-moved o x (Move.Begins free status round unmarked i z) u = absurd (true≢false (sym (ap isFree (sym x ∙ free)) ∙ not-free))
   over-moved o x (Move.Retires g status round y i) u = absurd (true≢false (sym (ap isFree status) ∙ u))
   over-moved {w = w} o x (Move.Opens kind from home was e y i z) u = ap (λ (q : Passage). q .status) e ∙ over-opened kind (w .passage .status) from x
@@ -104,7 +105,7 @@ module _ (s : Status) (over : isOver s ≡ true) where
       ∙ closing-over (w .passage) (largestQuiesce (w .passage .round)) o x one
   over-moved o x (Move.Aborts runs e y i z) u = absurd (not-running (ap isRunning (sym x) ∙ runs))
   over-moved o x (Move.Receives call body at e y early i z) u = ap (λ (q : Passage). q .status) e ∙ x
-  over-moved o x (Move.Replies n asked body e was live below y i silent reply) u = ap (λ (q : Passage). q .status) e ∙ x
+  over-moved o x (Move.Replies n asked body e was live below y i silent reply uncalled) u = ap (λ (q : Passage). q .status) e ∙ x
   over-moved o x (Move.Hears n told body e was y i z) u = ap (λ (q : Passage). q .status) e ∙ x
   over-moved o x (Move.Collects n r q body number at e y i stamp z) u = ap (λ (q : Passage). q .status) e ∙ x
 
@@ -188,7 +189,8 @@ committed-moved :
     {step : Step} {w : View} {a k c : ℕ} {p : Passage} {v : Visit} {m : Message} → w .passage .status ≢ Status.Committed
     → Move step w a k p v c m → p .status ≡ Status.Committed → ClosesCommit (w .passage)
 committed-moved n (Move.Rests e y i z) x = absurd (n (ap (λ (q : Passage). q .status) (sym e) ∙ x))
-committed-moved n (Move.Tells e y i home two silent word) x = absurd (n (ap (λ (q : Passage). q .status) (sym e) ∙ x))
+committed-moved n (Move.Sends d b e was y i z f) x = absurd (n (ap (λ (q : Passage). q .status) (sym e) ∙ x))
+committed-moved n (Move.Tells e y i home two silent word uncalled) x = absurd (n (ap (λ (q : Passage). q .status) (sym e) ∙ x))
 committed-moved n (Move.Begins free status round unmarked i z) x = absurd (true≢false (ap isRunning (sym status ∙ x)))
 committed-moved n (Move.Retires g status round y i) x = absurd (true≢false (ap isFree (sym status ∙ x)))
 committed-moved {w = w} n (Move.Opens kind from home was e y i z) x =
@@ -201,7 +203,7 @@ committed-moved {w = w} n (Move.Closes home one closed e y i z) x =
     }
 committed-moved n (Move.Aborts runs e y i z) x = absurd (aborted-not-committed (ap (λ (q : Passage). q .status) (sym e) ∙ x))
 committed-moved n (Move.Receives call body at e y early i z) x = absurd (n (ap (λ (q : Passage). q .status) (sym e) ∙ x))
-committed-moved n (Move.Replies b asked body e was live below y i silent reply) x = absurd (n (ap (λ (q : Passage). q .status) (sym e) ∙ x))
+committed-moved n (Move.Replies b asked body e was live below y i silent reply uncalled) x = absurd (n (ap (λ (q : Passage). q .status) (sym e) ∙ x))
 committed-moved n (Move.Hears b told body e was y i z) x = absurd (n (ap (λ (q : Passage). q .status) (sym e) ∙ x))
 committed-moved n (Move.Collects b r q body number at e y i stamp z) x = absurd (n (ap (λ (q : Passage). q .status) (sym e) ∙ x))
 

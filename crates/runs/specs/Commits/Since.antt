@@ -55,14 +55,15 @@ used-moved :
     {step : Step} {w : View} {a k c : ℕ} {p : Passage} {v : Visit} {m : Message} → Move step w a k p v c m
     → isStep 16 step ≡ false → isFree (w .passage .status) ≡ false → isFree (p .status) ≡ false
 used-moved (Move.Rests e x i y) g u = rw e u
-used-moved (Move.Tells e x i home two silent word) g u = rw e u
+used-moved (Move.Sends d b e was x i y f) g u = rw e u
+used-moved (Move.Tells e x i home two silent word uncalled) g u = rw e u
 used-moved (Move.Begins free status round unmarked i y) g u = rw status
 used-moved (Move.Retires y status round x i) g u = absurd (true≢false (sym y ∙ g))
 used-moved {w = w} (Move.Opens kind from home was e x i y) g u = rw e (used-asked (askedOf kind) (w .passage .status) u)
 used-moved {w = w} (Move.Closes home one closed e x i y) g u = rw e (used-told (roundTold (w .passage .round)) (w .passage .status) u)
 used-moved (Move.Aborts runs e x i y) g u = rw e
 used-moved (Move.Receives call body at e x early i y) g u = rw e u
-used-moved (Move.Replies n asked body e was live below x i silent reply) g u = rw e u
+used-moved (Move.Replies n asked body e was live below x i silent reply uncalled) g u = rw e u
 used-moved (Move.Hears n told body e was x i y) g u = rw e u
 used-moved (Move.Collects n r q body number at e x i stamp y) g u = rw e u
 
@@ -149,7 +150,7 @@ module _ (P : View → Ledger → Type 0) (Way : Trip → View → Type 0) (carr
       (sym (rested-view t at left z h x p slot n))
       (noted-same w (ls p) (at .site) 0 hold ∙ sym (put-other ls (at .slot) _ p n))
       (carries .moved {step = Step.Recover 0} (ls p) 0 hold (k .vows p slot) y
-      (Move.Rests refl (record { there = refl; prepared = refl; dead = refl; round = refl; quiesce = refl; release = refl }) (x .clock) (inl refl))
+      (Move.Rests refl refl (x .clock) (inl refl))
       (carries .used hold y))
 
   head-carried :

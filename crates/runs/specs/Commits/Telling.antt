@@ -110,8 +110,9 @@ module _ (w : View) (a k : ℕ) (p : Passage) (v : Visit) (l : Ledger) (h : Hold
       (λ s n there. (closing-binding w l h one closed (rw kind) s (h .mirror s there .0), λ q. n (q ∙ sym home)))
 
   answered-moved : {step : Step} {c : ℕ} {m : Message} → Move step w a k p v c m → Answered p (put (w .visit) a v)
-  answered-moved (Move.Rests e x i z) committed = answered-stays e (λ there. sym (x .there) ∙ there) committed
-  answered-moved (Move.Tells e x i home two silent word) committed = answered-stays e (as-it-was x) committed
+  answered-moved (Move.Rests e x i z) committed = answered-stays e (as-it-was x) committed
+  answered-moved (Move.Sends d b e was x i z f) committed = answered-stays e (λ there. was) committed
+  answered-moved (Move.Tells e x i home two silent word uncalled) committed = answered-stays e (as-it-was x) committed
   answered-moved (Move.Begins free status round unmarked i z) committed = absurd (true≢false (ap isActive (sym status ∙ committed)))
   answered-moved (Move.Retires g status round x i) committed = absurd (true≢false (ap isFree (sym status ∙ committed)))
   answered-moved (Move.Opens kind from home was e x i z) committed =
@@ -125,7 +126,7 @@ module _ (w : View) (a k : ℕ) (p : Passage) (v : Visit) (l : Ledger) (h : Hold
   answered-moved (Move.Receives call body at e x early i z) committed =
       let tells = committed-tells (w .passage) (o .round) (ap (λ (q : Passage). q .status) (sym e) ∙ committed) in
       absurd (h .passage .closed-quiet (tells .1) (rw (tells .0)) .mail k .call call body)
-  answered-moved (Move.Replies n asked body e was live below x i silent reply) committed = answered-stays e (λ there. was) committed
+  answered-moved (Move.Replies n asked body e was live below x i silent reply uncalled) committed = answered-stays e (λ there. was) committed
   answered-moved (Move.Hears n told body e was x i z) committed = answered-stays e (λ there. was) committed
   answered-moved (Move.Collects n r q body number at e x i stamp z) committed =
       let from : w .mail k .source < 8 = h .posted k (ap isEmpty body) .1 in
@@ -233,9 +234,13 @@ module _ (w : View) (a : ℕ) (p : Passage) (v : Visit) (y : Alive (w .passage) 
 alive-moved :
     {step : Step} {w : View} {a k c : ℕ} {p : Passage} {v : Visit} {m : Message} (l : Ledger) → Holds w l → Alive (w .passage) (w .visit)
     → (p .status ≡ Status.Free → (s : ℕ) → put (w .visit) a v s .there ≡ false) → Move step w a k p v c m → Alive p (put (w .visit) a v)
-alive-moved {w = w} {a = a} {p = p} {v = v} l h y none (Move.Rests e x i z) =
-    alive-alike w a p v y (ap (λ (q : Passage). q .home) e) (x .there) (x .prepared) (x .dead)
-alive-moved {w = w} {a = a} {p = p} {v = v} l h y none (Move.Tells e x i home two silent word) = alive-same w a p v y (ap (λ (q : Passage). q .home) e) x
+alive-moved {w = w} {a = a} {p = p} {v = v} l h y none (Move.Rests e x i z) = alive-same w a p v y (ap (λ (q : Passage). q .home) e) x
+alive-moved {w = w} {a = a} {p = p} {v = v} l h y none (Move.Sends d b e was x i z f) =
+    alive-alike w a p v y (ap (λ (q : Passage). q .home) e)
+    (ap (λ (u : Visit). u .there) x)
+    (ap (λ (u : Visit). u .prepared) x)
+    (ap (λ (u : Visit). u .dead) x)
+alive-moved {w = w} {a = a} {p = p} {v = v} l h y none (Move.Tells e x i home two silent word uncalled) = alive-same w a p v y (ap (λ (q : Passage). q .home) e) x
 alive-moved {w = w} {a = a} {p = p} {v = v} l h y none (Move.Begins free status round unmarked i z) =
     put-all (w .visit) a v
     (λ s x. s ≢ p .home → x .there ≡ true → x .prepared ≡ true → x .dead ≡ false)
@@ -250,7 +255,7 @@ alive-moved {w = w} {a = a} {c = c} {p = p} {v = v} l h y none (Move.Aborts runs
     alive-struck w a p v y (ap (λ (q : Passage). q .home) e) true c (w .visit a .dead) x
 alive-moved {w = w} {a = a} {p = p} {v = v} l h y none (Move.Receives call body at e x early i z) =
     alive-called w a p v y (ap (λ (q : Passage). q .home) e) call x
-alive-moved {w = w} {a = a} {c = c} {p = p} {v = v} l h y none (Move.Replies n asked body e was live below x i silent reply) =
+alive-moved {w = w} {a = a} {c = c} {p = p} {v = v} l h y none (Move.Replies n asked body e was live below x i silent reply uncalled) =
     alive-at w a p v y (ap (λ (q : Passage). q .home) e)
     (λ d t m. ap (λ (u : Visit). u .dead) x ∙ alive-asked asked n c (w .visit a) live (ap (λ (u : Visit). u .prepared) (sym x) ∙ m))
 alive-moved {w = w} {a = a} {p = p} {v = v} l h y none (Move.Hears n told body e was x i z) =

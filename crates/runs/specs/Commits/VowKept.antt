@@ -310,9 +310,13 @@ module _ (w : View) (l : Ledger) (a k c source : ℕ) (v : Visit) (m : Message) 
   pub vow-moved :
       {step : Step} (p : Passage) → (p .status ≡ Status.Free → (i : ℕ) → put (w .mail) k m i .body ≡ Body.Empty) → Move step w a k p v c m
       → After p
-  vow-moved p none (Move.Rests e x i (inl y)) = vow-stays p (as-it-was p e) (here-marked (x .there) (x .prepared) (x .round)) (sent-same p (as-it-was p e) y)
-  vow-moved p none (Move.Rests e x i (inr y)) = vow-stays p (as-it-was p e) (here-marked (x .there) (x .prepared) (x .round)) (sent-plain p y)
-  vow-moved p none (Move.Tells e x i home two silent word) =
+  vow-moved p none (Move.Rests e x i (inl y)) = vow-stays p (as-it-was p e) (here-same x) (sent-same p (as-it-was p e) y)
+  vow-moved p none (Move.Rests e x i (inr y)) = vow-stays p (as-it-was p e) (here-same x) (sent-plain p (y .plain))
+  vow-moved p none (Move.Sends d b e was x i y f) =
+      vow-stays p (as-it-was p e)
+      (here-marked (ap (λ (z : Visit). z .there) x) (ap (λ (z : Visit). z .prepared) x) (ap (λ (z : Visit). z .round) x))
+      (sent-plain p y)
+  vow-moved p none (Move.Tells e x i home two silent word uncalled) =
       vow-stays p (as-it-was p e) (here-same x)
       (record {
         word =
@@ -346,7 +350,7 @@ module _ (w : View) (l : Ledger) (a k c source : ℕ) (v : Visit) (m : Message) 
       made-there : (w .visit a .there ≡ true) ⊎ (w .visit a .there ≡ false) → calledVisit call (w .visit a) .there ≡ true
       made-there (inl q) = when-true (λ (z : Visit). z .there ≡ true) (w .visit a .there) (w .visit a) _ q q
       made-there (inr q) = when-false (λ (z : Visit). z .there ≡ true) (w .visit a .there) (w .visit a) _ q refl
-  vow-moved p none (Move.Replies n asked body e was live below x i silent reply) =
+  vow-moved p none (Move.Replies n asked body e was live below x i silent reply uncalled) =
       vow-stays p (as-it-was p e) (here-asked n asked body was below x)
       (record { word = λ y. absurd (true≢false (sym y ∙ silent)); answers = λ y. reply y .1 ∙ ap (λ (z : Passage). z .home) (sym e) })
   vow-moved p none (Move.Hears n told body e was x i y) = vow-stays p (as-it-was p e) (here-told n told body x) (sent-empty p y)

@@ -14,10 +14,10 @@ use Rattle.runs.specs.Types.{Figures, Status, Visit, Call, Body, Message
 use Rattle.runs.specs.Walk.Says.{bodyKind}
 use Rattle.runs.specs.Walk.Put.{put, put-same, put-other, put-all}
 use Rattle.runs.specs.Times.View.{View, Past, Ledger, relast, firstSeen}
-use Rattle.runs.specs.Times.Clauses.{Below, Quiet, InAnswer, EdgeFine, SiteFine, CallFine, receivedBy, sentBy, Holds}
+use Rattle.runs.specs.Times.Clauses.{callTo, Below, Quiet, InAnswer, EdgeFine, SiteFine, CallFine, receivedBy, sentBy, Holds}
 use Rattle.runs.specs.Times.ClausesLaws.{call-says, empty-clause, call-clause}
 use Rattle.runs.specs.Kept.Shrunk.{around}
-use Rattle.runs.specs.Kept.Touched.{figure-fine, one-call-more, Later, later-sent, later-received, touchedView, callTo, Touch, touched-below, touched-figure, edge-touched, touched}
+use Rattle.runs.specs.Kept.Touched.{figure-fine, one-call-more, Later, later-sent, later-received, touchedView, Touch, touched-below, touched-figure, edge-touched, touched}
 
 -- ---- a visit that stands before its Q
 

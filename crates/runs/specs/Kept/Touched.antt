@@ -16,7 +16,7 @@ use Rattle.runs.specs.Types.{Figures, Status, Visit, Call, Told, Body, M
 use Rattle.runs.specs.Walk.Says.{isBinding}
 use Rattle.runs.specs.Walk.Put.{put, put-same, put-other, put-all, same-or-other, sum-put}
 use Rattle.runs.specs.Times.View.{View, Past, Ledger, relast}
-use Rattle.runs.specs.Times.Clauses.{Below, Quiet, InAnswer, Figure, FigureFine, EdgeFine, SiteFine, CallFine, ToldFine, BodyFine, Posted, PassageFine, isCallTo, callsTo, receivedBy, sentBy, Balanced, Holds}
+use Rattle.runs.specs.Times.Clauses.{callTo, Below, Quiet, InAnswer, Figure, FigureFine, EdgeFine, SiteFine, CallFine, ToldFine, BodyFine, Posted, PassageFine, isCallTo, callsTo, receivedBy, sentBy, Balanced, Holds}
 use Rattle.runs.specs.Kept.Shrunk.{around}
 
 -- a sum over places with one place changed
@@ -111,10 +111,6 @@ later-received x =
 
 abbrev pub touchedView : View → ℕ → Visit → ℕ → Message → View
 touchedView w a v k x = around w (put (w .visit) a v) (w .clock) (put (w .mail) k x)
-
--- a call to d, as a number
-abbrev pub callTo : ℕ → Message → ℕ
-callTo d m = oneIf (isCallTo d (m .destination) (m .body))
 
 -- what is asked of it; a site that was seen keeps what Later says, and under a binding kind has not yet answered
 pub record Touch (w : View) (l : Ledger) (a : ℕ) (v : Visit) (y : Past) (k : ℕ) (x : Message) : Type 0 where

@@ -8,26 +8,18 @@ use mathlib.Core.Logic.{_⊎_}
 use mathlib.Core.Bool.{Bool, true, false, cond, _&&_}
 use lib.Dec.{eqb}
 use Rattle.rules.specs.declared.looking.Trip.{Trip}
+use Rattle.rules.specs.Loops.{oneIf}
 use Rattle.rules.specs.Tables.{noVisit, noRound, noMessage}
-use Rattle.rules.specs.Parts.{isActive, isRunning, isClosed, abortedPassage, withRound, withAnswer, whereThere, quieted, countReceived, askedOf, askedVisit, toldVisit, asksLife}
+use Rattle.rules.specs.Parts.{isActive, isRunning, isClosed, abortedPassage, withRound, withAnswer, whereThere, quieted, countSent, countReceived, askedOf, askedVisit, toldVisit, asksLife}
 use Rattle.rules.specs.Rounds.{roundTold, openedPassage, closedPassage}
 use Rattle.rules.specs.Calls.{calledVisit}
 use Rattle.rules.specs.Record.{isStep}
 use Rattle.runs.specs.Types.{Kind, Phase, Status, Passage, Visit, Call, Asked, Told, Body, Message, Step}
 use Rattle.runs.specs.Walk.Says.{isPrepare, bodyKind, carriesCommit}
 use Rattle.runs.specs.Times.View.{View}
-use Rattle.runs.specs.Times.Clauses.{sentFigures}
+use Rattle.runs.specs.Times.Clauses.{sentFigures, callTo}
 
 -- ---- what is said of a visit and of a message
-
--- a visit of which all but its counts has stayed
-pub record Alike (v x : Visit) : Type 0 where
-  pub there : x .there ≡ v .there
-  pub prepared : x .prepared ≡ v .prepared
-  pub dead : x .dead ≡ v .dead
-  pub round : x .round ≡ v .round
-  pub quiesce : x .quiesce ≡ v .quiesce
-  pub release : x .release ≡ v .release
 
 abbrev pub isAnswer : Body → Bool
 isAnswer b = eqb (bodyKind b) 4
@@ -36,6 +28,11 @@ isAnswer b = eqb (bodyKind b) 4
 pub record PlainMail (m : Message) : Type 0 where
   pub commit : carriesCommit (m .body) ≡ false
   pub answer : isAnswer (m .body) ≡ false
+
+-- one that is no call either
+pub record Uncalled (m : Message) : Type 0 where
+  pub plain : PlainMail m
+  pub none : (d : ℕ) → callTo d m ≡ 0
 
 -- ---- which status each kind of round is opened from
 
@@ -48,16 +45,20 @@ OpenedFrom Kind.Prepare s = isRunning s ≡ true
 -- ---- a step's own store
 
 pub data Move (step : Step) (w : View) (a k : ℕ) (p : Passage) (v : Visit) (c : ℕ) (m : Message) : Type 0 where
-  -- the clock moves, a count grows, a message that is no word goes out or is lost
+  -- the clock moves, a question goes out, or a message is lost
   Rests :
-      p ≡ w .passage → Alike (w .visit a) v → w .clock a ≤ c → (m ≡ w .mail k) ⊎ PlainMail m
+      p ≡ w .passage → v ≡ w .visit a → w .clock a ≤ c → (m ≡ w .mail k) ⊎ Uncalled m
       → Move step w a k p v c m
+  -- a call goes out, and the visit counts it as sent to site d
+  Sends :
+      (d : ℕ) → d < 8 → p ≡ w .passage → w .visit a .there ≡ true → v ≡ countSent (w .visit a) d → w .clock a ≤ c
+      → PlainMail m → ((e : ℕ) → callTo e m ≤ oneIf (eqb d e)) → Move step w a k p v c m
   -- home tells a site what its round has closed with
   Tells :
       p ≡ w .passage → v ≡ w .visit a → w .clock a ≤ c → a ≡ w .passage .home
       → w .passage .round .phase ≡ Phase.Two → isAnswer (m .body) ≡ false
       → (carriesCommit (m .body) ≡ true → (isPrepare (w .passage .round .kind) ≡ true) × (m .stamp ≡ c))
-      → Move step w a k p v c m
+      → ((d : ℕ) → callTo d m ≡ 0) → Move step w a k p v c m
   Begins :
       w .passage .status ≡ Status.Free → p .status ≡ Status.Active → p .round ≡ noRound → v .prepared ≡ false → w .clock a ≤ c
       → m ≡ w .mail k → Move step w a k p v c m
@@ -87,7 +88,7 @@ pub data Move (step : Step) (w : View) (a k : ℕ) (p : Passage) (v : Visit) (c 
       → w .visit a .there ≡ true → (asksLife asked && w .visit a .dead) ≡ false → w .visit a .round < n → v ≡ askedVisit asked n c (w .visit a)
       → w .clock a < c → carriesCommit (m .body) ≡ false
       → (isAnswer (m .body) ≡ true → (m .source ≡ a) × (m .destination ≡ w .passage .home) × (m .stamp ≡ c))
-      → Move step w a k p v c m
+      → ((d : ℕ) → callTo d m ≡ 0) → Move step w a k p v c m
   -- a phase 2 message is delivered, away from home
   Hears :
       (n : ℕ) (told : Told) → w .mail k .body ≡ Body.PhaseTwo n told → p ≡ w .passage → w .visit a .there ≡ true

@@ -63,8 +63,9 @@ where-gone v x e y = false≢true (sym e ∙ ap (λ (z : Visit). z .there) (sym 
 pub made-at-unseen :
     {step : Step} {w : View} {a k c : ℕ} {p : Passage} {v : Visit} {m : Message} (l : Ledger) → Holds w l → Move step w a k p v c m
     → w .visit a .there ≡ false → v .there ≡ true → l a .seen ≡ false
-made-at-unseen l h (Move.Rests p v i m) e y = absurd (false≢true (sym e ∙ sym (v .there) ∙ y))
-made-at-unseen l h (Move.Tells p v i q two n f) e y = absurd (false≢true (sym e ∙ ap (λ (x : Visit). x .there) (sym v) ∙ y))
+made-at-unseen l h (Move.Rests p v i m) e y = absurd (false≢true (sym e ∙ ap (λ (x : Visit). x .there) (sym v) ∙ y))
+made-at-unseen l h (Move.Sends d j p there v i m f) e y = absurd (false≢true (sym e ∙ there))
+made-at-unseen l h (Move.Tells p v i q two n f uncalled) e y = absurd (false≢true (sym e ∙ ap (λ (x : Visit). x .there) (sym v) ∙ y))
 made-at-unseen {a = a} l h (Move.Begins free s r unmarked i m) e y = h .free free .ledger a
 made-at-unseen l h (Move.Retires g s r v i) e y = absurd (false≢true (sym e ∙ ap (λ (x : Visit). x .there) (sym v) ∙ y))
 made-at-unseen l h (Move.Opens kind from q there p v i m) e y = absurd (false≢true (sym e ∙ there))
@@ -72,7 +73,7 @@ made-at-unseen {w = w} {a = a} l h (Move.Closes q one closed p v i m) e y = absu
 made-at-unseen {w = w} {a = a} l h (Move.Aborts runs p v i m) e y = absurd (where-gone (w .visit a) _ e (ap (λ (x : Visit). x .there) (sym v) ∙ y))
 made-at-unseen {w = w} {a = a} {k = k} {c = c} l h (Move.Receives call body at p v early i m) e y =
     let q : c < call .quiesce = rw e at early in never-twice w l h k a call body at e (omega arith)
-made-at-unseen l h (Move.Replies n asked body p there live round v i q f) e y = absurd (false≢true (sym e ∙ there))
+made-at-unseen l h (Move.Replies n asked body p there live round v i q f uncalled) e y = absurd (false≢true (sym e ∙ there))
 made-at-unseen l h (Move.Hears n told body p there v i m) e y = absurd (false≢true (sym e ∙ there))
 made-at-unseen l h (Move.Collects n r q body number at p v i stamp m) e y = absurd (false≢true (sym e ∙ ap (λ (x : Visit). x .there) (sym v) ∙ y))
 
@@ -98,8 +99,9 @@ later-told Told.Prepare x v i e = absurd (false≢true e)
 pub quiesce-after :
     {step : Step} {w : View} {a k c : ℕ} {p : Passage} {v : Visit} {m : Message} (l : Ledger) → Holds w l → Move step w a k p v c m
     → (x : ℕ) → w .visit a .there ≡ true → v .there ≡ true → x < w .visit a .quiesce → x ≤ w .clock a → x < v .quiesce
-quiesce-after l h (Move.Rests p v i m) x e y j n = rw (v .quiesce) j
-quiesce-after l h (Move.Tells p v i q two b f) x e y j n = rw v j
+quiesce-after l h (Move.Rests p v i m) x e y j n = rw v j
+quiesce-after l h (Move.Sends d b p there v i m f) x e y j n = rw v j
+quiesce-after l h (Move.Tells p v i q two b f uncalled) x e y j n = rw v j
 quiesce-after {a = a} l h (Move.Begins free s r unmarked i m) x e y j n = absurd (false≢true (sym (h .free free .visits a) ∙ e))
 quiesce-after l h (Move.Retires g s r v i) x e y j n = rw v j
 quiesce-after {w = w} {a = a} {c = c} l h (Move.Opens kind from q there p v i m) x e y j n =
@@ -109,7 +111,7 @@ quiesce-after {w = w} {a = a} {v = v} l h (Move.Closes q one closed p u i m) x e
     rw t (later-told (roundTold (w .passage .round)) x (w .visit a) j (ap (λ (z : Visit). z .there) (sym t) ∙ y))
 quiesce-after {w = w} {a = a} l h (Move.Aborts runs p v i m) x e y j n = rw (v, e) (omega arith)
 quiesce-after {w = w} {a = a} l h (Move.Receives call body at p v early i m) x e y j n = rw (v, e) j
-quiesce-after {w = w} {a = a} {c = c} l h (Move.Replies b asked body p there live round v i q f) x e y j n =
+quiesce-after {w = w} {a = a} {c = c} l h (Move.Replies b asked body p there live round v i q f uncalled) x e y j n =
     rw v (later-asked asked b c x (w .visit a) j (omega arith))
 quiesce-after {w = w} {a = a} l h (Move.Hears b told body p there v i m) x e y j n =
     rw v (later-told told x (w .visit a) j (ap (λ (z : Visit). z .there) (sym v) ∙ y))
@@ -135,13 +137,14 @@ quiesce-turned {w = w} {a = a} (Turn.Crashes site aborts hits b p f v) x e y j n
 -- ---- a clock is not put back
 pub clock-after-move : {step : Step} {w : View} {a k c : ℕ} {p : Passage} {v : Visit} {m : Message} → Move step w a k p v c m → w .clock a ≤ c
 clock-after-move (Move.Rests e y i z) = i
-clock-after-move (Move.Tells e y i home two silent word) = i
+clock-after-move (Move.Sends d b e was y i z f) = i
+clock-after-move (Move.Tells e y i home two silent word uncalled) = i
 clock-after-move (Move.Begins free status round unmarked i z) = i
 clock-after-move (Move.Retires g status round y i) = i
 clock-after-move (Move.Opens kind from home was e y i z) = omega arith
 clock-after-move (Move.Closes home one closed e y i z) = omega arith
 clock-after-move (Move.Aborts runs e y i z) = omega arith
 clock-after-move (Move.Receives call body at e y early i z) = omega arith
-clock-after-move (Move.Replies b asked body e was live below y i silent reply) = omega arith
+clock-after-move (Move.Replies b asked body e was live below y i silent reply uncalled) = omega arith
 clock-after-move (Move.Hears b told body e was y i z) = omega arith
 clock-after-move (Move.Collects b r q body number at e y i stamp z) = omega arith

@@ -10,6 +10,7 @@ use lib.Dec.{eqb, leb}
 use borrow.Author.Tests.{leb-false, eqb-true}
 use Rattle.rules.specs.declared.looking.MailAt.{MailAt}
 use Rattle.rules.specs.declared.looking.Trip.{Trip}
+use Rattle.rules.specs.Loops.{oneIf}
 use Rattle.rules.specs.LoopsLaws.{either, cond-keeps, and-left, and-right, or-left, or-right, not-false, not-true}
 use Rattle.rules.specs.Tables.{siteAt, passageAt, visitAt, messageAt, noMessage, slotOf}
 use Rattle.rules.specs.Ranges.{inRange}
@@ -20,18 +21,18 @@ use Rattle.rules.specs.Parts.{isFree, isActive, isRunning, isAborted, isPhaseOn
 use Rattle.rules.specs.Stations.{tickOf, tickDone, sweepOf, sweepDone, isSwept, sweptSlot, crashOf, crashDone, losesHome, crashedSlot, recoverOf, recoverDone}
 use Rattle.rules.specs.Passages.{beginOf, beginDone, abortOf, abortDone, retireOf, retireDone}
 use Rattle.rules.specs.Rounds.{openChecks, openOf, openDone, refreshOf, terminateOf, prepareOf, askOf, askDone, closeOf, closeDone, tellChecks, tellOf, tellDone, tellBody}
-use Rattle.rules.specs.Calls.{mailClock, calledVisit, callChecks, callDone, roundChecks, atHome, phaseOneDone, phaseTwoDone, answerChecks, answerDone, invokeOf, invokeDone, emptyOf, deliverCallOf, deliverPhaseOneOf, deliverPhaseTwoOf, deliverAnswerOf, deliverBodyOf, dropOf, dropDone}
+use Rattle.rules.specs.Calls.{callSite, callOf, invokeChecks, mailClock, calledVisit, callChecks, callDone, roundChecks, atHome, phaseOneDone, phaseTwoDone, answerChecks, answerDone, invokeOf, invokeDone, emptyOf, deliverCallOf, deliverPhaseOneOf, deliverPhaseTwoOf, deliverAnswerOf, deliverBodyOf, dropOf, dropDone}
 use Rattle.rules.specs.Machine.{looksHome, placesOf, seenOf, decideOf, foundOf, slotPlaces, tripPlaces, turnSeen, isMessageOf}
 use Rattle.runs.specs.Types.{Kind, Status, Visit, Call, Asked, Told, Body, Message, Tables, Step, Places, Seen, Decision}
 use Rattle.runs.specs.Walk.Says.{isPrepare, tellsPrepare, carriesCommit}
 use Rattle.runs.specs.Walk.Steps.{placesAt, seenAt}
 use Rattle.runs.specs.Times.View.{Ledger, mailOf, viewOf}
-use Rattle.runs.specs.Times.Clauses.{Holds}
+use Rattle.runs.specs.Times.Clauses.{callTo, Holds}
 use Rattle.runs.specs.Fits.Life.{free-says}
 use Rattle.runs.specs.Fits.Close.{one-says}
 use Rattle.runs.specs.Fits.Mail.{two-says}
 use Rattle.runs.specs.Fits.Deliver.{deliverAt, letter-seen, letter-body, letter-here, letter-away, deliver-own, deliver-here, deliver-in}
-use Rattle.runs.specs.Moves.Definitions.{Alike, isAnswer, PlainMail, OpenedFrom, Move, Turn}
+use Rattle.runs.specs.Moves.Definitions.{isAnswer, PlainMail, Uncalled, OpenedFrom, Move, Turn}
 
 -- what a store at these places does to its own slot
 abbrev pub MoveAt : Step → Tables → Places → Seen → Type 0
@@ -74,19 +75,19 @@ aborted-says Status.Committing e = absurd (false≢true e)
 aborted-says Status.Aborted e = refl
 aborted-says Status.Committed e = absurd (false≢true e)
 
-alike-same : (v : Visit) → Alike v v
-alike-same v = record { there = refl; prepared = refl; dead = refl; round = refl; quiesce = refl; release = refl }
-
 empty-plain : PlainMail noMessage
 empty-plain = record { commit = refl; answer = refl }
+
+empty-uncalled : Uncalled noMessage
+empty-uncalled = record { plain = empty-plain; none = λ d. refl }
 
 -- a slot sees a message as it is, or sees none
 mail-has : (P : Message → Type 0) (p : ℕ) (m : Message) → P m → P noMessage → P (mailOf p m)
 mail-has P p m x y = cond-keeps P (isMessageOf p m) m noMessage x y
 
--- what is plain is plain as its slot sees it
-seen-plain : (p : ℕ) (m : Message) → PlainMail m → PlainMail (mailOf p m)
-seen-plain p m x = mail-has PlainMail p m x empty-plain
+-- what is no call is none as its slot sees it
+seen-uncalled : (p : ℕ) (m : Message) → Uncalled m → Uncalled (mailOf p m)
+seen-uncalled p m x = mail-has Uncalled p m x empty-uncalled
 
 -- ---- steps that are no delivery
 
@@ -105,19 +106,19 @@ module _ (t : Tables) (l : Ledger) where
       → MoveAt step t (placesAt t step) (settleOf (done (seenAt t step)) (seenAt t step) .left)
   site-move step done e p v m i =
       step-settled t step done e
-      (Move.Rests p (subst (Alike (seenAt t step .visit)) (sym v) (alike-same _)) i (inl (ap (mailOf (placesAt t step .slot)) m)))
+      (Move.Rests p v i (inl (ap (mailOf (placesAt t step .slot)) m)))
 
-  -- a message that is no word goes out, or one is lost
+  -- a question goes out, or a message is lost
   plain-move :
       (step : Step) (done : Seen → Decision) → isAccepted (done (seenAt t step) .answer) ≡ true
       → done (seenAt t step) .left .passage ≡ seenAt t step .passage
-      → Alike (seenAt t step .visit) (done (seenAt t step) .left .visit)
+      → done (seenAt t step) .left .visit ≡ seenAt t step .visit
       → seenAt t step .site .clock ≤ done (seenAt t step) .left .site .clock
-      → PlainMail (done (seenAt t step) .left .message)
+      → Uncalled (done (seenAt t step) .left .message)
       → MoveAt step t (placesAt t step) (settleOf (done (seenAt t step)) (seenAt t step) .left)
   plain-move step done e p v i m =
       step-settled t step done e
-      (Move.Rests p v i (inr (seen-plain (placesAt t step .slot) (done (seenAt t step) .left .message) m)))
+      (Move.Rests p v i (inr (seen-uncalled (placesAt t step .slot) (done (seenAt t step) .left .message) m)))
 
   -- what a round of this kind tells is a commit where the kind is prepare
   told-prepare : (kind : Kind) (m : ℕ) → tellsPrepare (toldOf kind m) ≡ true → isPrepare kind ≡ true
@@ -134,6 +135,28 @@ module _ (t : Tables) (l : Ledger) where
   unfolding placesOf
   open-move h kind bad wrong k fine from =
       Move.Opens kind from (home-here (h % 16) k) (not-false _ (fine .there)) refl refl (omega arith) refl
+
+  invoke-move :
+      (h site write object value place : ℕ) → Fine (invokeChecks h site write object value (seenAt t (Step.Invoke h site write object value)))
+      → MoveAt
+      (Step.Invoke h site write object value)
+      t
+      (placesAt t (Step.Invoke h site write object value))
+      (invokeDone h site write object value place (seenAt t (Step.Invoke h site write object value)) .left)
+  unfolding placesOf
+  invoke-move h site write object value place fine =
+      Move.Sends
+      (callSite object)
+      (omega arith)
+      refl
+      (not-false _ (fine .there))
+      refl
+      (omega arith)
+      (mail-has PlainMail (h % 16) call (record { commit = refl; answer = refl }) empty-plain)
+      (mail-has (λ (x : Message). (e : ℕ) → callTo e x ≤ oneIf (eqb (callSite object) e)) (h % 16) call (λ e. omega arith) (λ e. omega arith))
+    where
+      call : Message
+      call = plainMessage (Body.Call (callOf write object value (visitAt t (site % 8) (h % 16)))) site (callSite object) h (siteAt t (site % 8) .clock + 1)
 
   tell-move :
       (h site place : ℕ) → Holds (viewOf t (placesAt t (Step.Tell h site) .slot)) l → Fine (tellChecks h site (seenAt t (Step.Tell h site)))
@@ -153,6 +176,7 @@ module _ (t : Tables) (l : Ledger) where
       word
       (λ e. (told-prepare (passageAt t (h % 16) .round .kind) (largestQuiesce (passageAt t (h % 16) .round)) e, refl))
       (λ e. absurd (false≢true e)))
+      (mail-has (λ (x : Message). (d : ℕ) → callTo d x ≡ 0) (h % 16) word (λ d. refl) (λ d. refl))
     where
       word : Message
       word = plainMessage (tellBody (passageAt t (h % 16) .round)) (passageAt t (h % 16) .home) site h (siteAt t (passageAt t (h % 16) .home % 8) .clock + 1)
@@ -214,6 +238,7 @@ module _ (t : Tables) (at : Places) (m : ℕ) (l : Ledger) (own : slotOf (messag
       reply
       (λ e. (sym here, refl, refl))
       (λ e. absurd (false≢true e))))
+      (rw away (mail-has (λ (x : Message). (d : ℕ) → callTo d x ≡ 0) (at .slot) reply (λ d. refl) (λ d. refl)))
     where
       reply : Message
       reply =
@@ -293,11 +318,8 @@ module _ (t : Tables) (range : inRange t ≡ true) (l : Ledger) where
       step-settled t (Step.Begin home slot q r) (beginDone home slot q r) e
       (Move.Begins (free-says _ (not-false _ (accepted-fine _ _ e .state))) refl refl refl (omega arith) refl)
   move-of (Step.Invoke h site write object value) k e =
-      plain-move t l (Step.Invoke h site write object value) (invokeDone h site write object value _) e
-      refl
-      (record { there = refl; prepared = refl; dead = refl; round = refl; quiesce = refl; release = refl })
-      (omega arith)
-      (record { commit = refl; answer = refl })
+      step-settled t (Step.Invoke h site write object value) (invokeDone h site write object value _) e
+      (invoke-move t l h site write object value (placesAt t (Step.Invoke h site write object value) .message) (accepted-fine _ _ e))
   move-of (Step.Refresh h q r) k e =
       step-settled t (Step.Refresh h q r) (λ seen. openDone h (Kind.Refresh q r) (badHandle h || badTimes q r) (not (isActive (seen .passage .status))) seen) e
       (open-move t l h (Kind.Refresh q r) _ _ k (accepted-fine _ _ e) (active-says _ (not-false _ (accepted-fine _ _ e .state))))
@@ -308,7 +330,8 @@ module _ (t : Tables) (range : inRange t ≡ true) (l : Ledger) where
       step-settled t (Step.Prepare h) (λ seen. openDone h Kind.Prepare (badHandle h) (not (isRunning (seen .passage .status))) seen) e
       (open-move t l h Kind.Prepare _ _ k (accepted-fine _ _ e) (not-false _ (accepted-fine _ _ e .state)))
   move-of (Step.Ask h site) k e =
-      plain-move t l (Step.Ask h site) (askDone h site _) e refl (alike-same _) (omega arith) (record { commit = refl; answer = refl })
+      plain-move t l (Step.Ask h site) (askDone h site _) e refl refl (omega arith)
+      (record { plain = record { commit = refl; answer = refl }; none = λ d. refl })
   move-of (Step.Close h) k e =
       step-settled t (Step.Close h) (closeDone h) e
       (Move.Closes
@@ -326,7 +349,7 @@ module _ (t : Tables) (range : inRange t ≡ true) (l : Ledger) where
       step-settled t (Step.Abort h) (abortDone h) e
       (Move.Aborts (not-false _ (accepted-fine _ _ e .state)) refl refl (omega arith) refl)
   move-of (Step.Deliver m) k e = body-move m (seenOf t (deliverAt t m) .message .body) refl k e
-  move-of (Step.Drop m) k e = plain-move t l (Step.Drop m) (dropDone m) e refl (alike-same _) (omega arith) empty-plain
+  move-of (Step.Drop m) k e = plain-move t l (Step.Drop m) (dropDone m) e refl refl (omega arith) empty-uncalled
   move-of (Step.Sweep site) k e = site-move t l (Step.Sweep site) (sweepDone site) e refl refl refl (omega arith)
   move-of (Step.Crash site) k e = site-move t l (Step.Crash site) (crashDone site) e refl refl refl (omega arith)
   move-of (Step.Recover site) k e = site-move t l (Step.Recover site) (recoverDone site) e refl refl refl (omega arith)

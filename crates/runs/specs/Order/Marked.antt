@@ -251,9 +251,13 @@ module _ (x s : ℕ) where
     heard-moved p (Move.Rests e y j (inl z)) u = heard-stays p e (same-answer z) (same-word z)
     heard-moved p (Move.Rests e y j (inr z)) u =
         heard-stays p e
+        (λ n r q kind body. absurd (true≢false (ap isAnswer (sym body) ∙ z .plain .answer)))
+        (λ y. absurd (true≢false (sym y ∙ z .plain .commit)))
+    heard-moved p (Move.Sends d b e was y j z f) u =
+        heard-stays p e
         (λ n r q kind body. absurd (true≢false (ap isAnswer (sym body) ∙ z .answer)))
         (λ y. absurd (true≢false (sym y ∙ z .commit)))
-    heard-moved p (Move.Tells e y j home two silent word) u =
+    heard-moved p (Move.Tells e y j home two silent word uncalled) u =
         heard-stays p e
         (λ n r q kind body. absurd (true≢false (ap isAnswer (sym body) ∙ silent)))
         (λ y.
@@ -272,7 +276,7 @@ module _ (x s : ℕ) where
         (same-word z))
     heard-moved p (Move.Aborts runs e y j z) u = subst (λ (q : Passage). Heard (Left q)) (sym e) (heard-struck true z)
     heard-moved p (Move.Receives call body at e y early j z) u = heard-stays p e (silent-answer z) (silent-word z)
-    heard-moved p (Move.Replies n asked body e was live below y j silent reply) u =
+    heard-moved p (Move.Replies n asked body e was live below y j silent reply uncalled) u =
         heard-stays p e
         (λ b r q kind answer number source.
         let said = reply (ap isAnswer answer) in

@@ -162,6 +162,10 @@ pub record FreeFine (w : View) (l : Ledger) : Type 0 where
 abbrev pub isCallTo : ℕ → ℕ → Body → Bool
 isCallTo d a b = eqb (bodyKind b) 1 && eqb a d
 
+-- a call to d, as a number
+abbrev pub callTo : ℕ → Message → ℕ
+callTo d m = oneIf (isCallTo d (m .destination) (m .body))
+
 abbrev pub callsTo : View → ℕ → ℕ
 callsTo w d = sumUpTo (λ k. oneIf (isCallTo d (w .mail k .destination) (w .mail k .body))) 32
 

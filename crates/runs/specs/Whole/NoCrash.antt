@@ -45,8 +45,9 @@ asked-dead Asked.Prepare n c u = refl
 dead-moved :
     {step : Step} {w : View} {a k c : ℕ} {p : Passage} {v : Visit} {m : Message} (l : Ledger) → Holds w l → Move step w a k p v c m
     → w .visit a .there ≡ true → v .there ≡ true → w .visit a .dead ≡ true → v .dead ≡ true
-dead-moved l h (Move.Rests e x i z) was there dead = x .dead ∙ dead
-dead-moved l h (Move.Tells e x i home two silent word) was there dead = ap (λ (u : Visit). u .dead) x ∙ dead
+dead-moved l h (Move.Rests e x i z) was there dead = ap (λ (u : Visit). u .dead) x ∙ dead
+dead-moved l h (Move.Sends d b e there x i z f) was now dead = ap (λ (u : Visit). u .dead) x ∙ dead
+dead-moved l h (Move.Tells e x i home two silent word uncalled) was there dead = ap (λ (u : Visit). u .dead) x ∙ dead
 dead-moved {a = a} l h (Move.Begins free status round unmarked i z) was there dead = absurd (false≢true (sym (h .free free .visits a) ∙ was))
 dead-moved l h (Move.Retires g status round x i) was there dead = ap (λ (u : Visit). u .dead) x ∙ dead
 dead-moved {w = w} {a = a} {c = c} l h (Move.Opens kind from home was e x i z) there now dead =
@@ -57,7 +58,7 @@ dead-moved {w = w} {a = a} {v = v} l h (Move.Closes home one closed e x i z) was
 dead-moved {w = w} {a = a} l h (Move.Aborts runs e x i z) was there dead = ap (λ (u : Visit). u .dead) (x ∙ where-is (w .visit a) _ was) ∙ dead
 dead-moved {w = w} {a = a} l h (Move.Receives call body at e x early i z) was there dead =
     ap (λ (u : Visit). u .dead) x ∙ when-true (λ (u : Visit). u .dead ≡ true) (w .visit a .there) (w .visit a) _ was dead
-dead-moved {w = w} {a = a} {c = c} l h (Move.Replies n asked body e was live below x i silent reply) there now dead =
+dead-moved {w = w} {a = a} {c = c} l h (Move.Replies n asked body e was live below x i silent reply uncalled) there now dead =
     ap (λ (u : Visit). u .dead) x ∙ asked-dead asked n c (w .visit a) ∙ dead
 dead-moved {w = w} {a = a} l h (Move.Hears n told body e was x i z) there now dead =
     ap (λ (u : Visit). u .dead) x ∙ marks-told told (w .visit a) (ap (λ (u : Visit). u .there) (sym x) ∙ now) .1 ∙ dead
@@ -78,14 +79,15 @@ home-moved :
     {step : Step} {w : View} {a k c : ℕ} {p : Passage} {v : Visit} {m : Message} → Move step w a k p v c m
     → isFree (w .passage .status) ≡ false → isFree (p .status) ≡ false → p .home ≡ w .passage .home
 home-moved (Move.Rests e x i z) was now = ap (λ (q : Passage). q .home) e
-home-moved (Move.Tells e x i home two silent word) was now = ap (λ (q : Passage). q .home) e
+home-moved (Move.Sends d b e there x i z f) was now = ap (λ (q : Passage). q .home) e
+home-moved (Move.Tells e x i home two silent word uncalled) was now = ap (λ (q : Passage). q .home) e
 home-moved (Move.Begins free status round unmarked i z) was now = absurd (true≢false (sym (ap isFree free) ∙ was))
 home-moved (Move.Retires g status round x i) was now = absurd (true≢false (sym (ap isFree status) ∙ now))
 home-moved (Move.Opens kind from home there e x i z) was now = ap (λ (q : Passage). q .home) e
 home-moved (Move.Closes home one closed e x i z) was now = ap (λ (q : Passage). q .home) e
 home-moved (Move.Aborts runs e x i z) was now = ap (λ (q : Passage). q .home) e
 home-moved (Move.Receives call body at e x early i z) was now = ap (λ (q : Passage). q .home) e
-home-moved (Move.Replies n asked body e there live below x i silent reply) was now = ap (λ (q : Passage). q .home) e
+home-moved (Move.Replies n asked body e there live below x i silent reply uncalled) was now = ap (λ (q : Passage). q .home) e
 home-moved (Move.Hears n told body e there x i z) was now = ap (λ (q : Passage). q .home) e
 home-moved (Move.Collects n r q body number at e x i stamp z) was now = ap (λ (q : Passage). q .home) e
 
