@@ -4,3 +4,4 @@ pub mod RestsOn
 pub mod Whole
 pub mod CommitIsWhole
 pub mod NoCrash
+pub mod Lost

@@ -1,5 +1,5 @@
 -- The closing law: when a round in phase 1 is closed, every site that matters has answered. Assumes nothing.
-use Prim.Native.Nat.{ℕ, zero, suc, _<_, _≤_}
+use Prim.Native.Nat.{ℕ, zero, suc, _+_, _<_, _≤_}
 use native.Mathlib.Omega.{arith}
 use native.Mathlib.Nat.{not-suc-le-zero}
 use mathlib.Core.Path.{_≡_, refl, sym, ap, _∙_}
@@ -179,3 +179,11 @@ module _ (w : View) (l : Ledger) (h : Holds w l)
       closed-at (w .passage .round) closed d (p .1) in
       let m : 1 ≤ callsTo w d = rw (b, eq-eqb d d refl) at (sum-at (λ j. oneIf (isCallTo d (w .mail j .destination) (w .mail j .body))) 32 k (p .0)) in
       omega (arith, h .balance d, sent-counted e d, received-counted e d (p .1))
+
+  -- and none is lost: no site was sent a call that it has not received and that is not in flight
+  pub closing-none-lost :
+      isBinding (w .passage .round .kind) ≡ true → (d : ℕ) → d < 8
+      → receivedBy (l d) + callsTo w d + 1 ≤ sumUpTo (λ v. sentBy d (l v)) 8 → ⊥
+  closing-none-lost e d i short =
+      let z : sentTo (w .passage .round) d ≡ receivedAt (w .passage .round) d = closed-at (w .passage .round) closed d i in
+      omega (arith, short, sent-counted e d, received-counted e d i)

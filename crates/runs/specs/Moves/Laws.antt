@@ -25,7 +25,7 @@ module _ (w : View) (l : Ledger) (a source : ℕ) (v : Visit) where
   abbrev Noted : Past → Type 0
   Noted x = (x .seen ≡ true) × (x .last ≡ v)
 
-  past-there : v .there ≡ true → Noted (notedPast l (l a) source v)
+  pub past-there : v .there ≡ true → Noted (notedPast l (l a) source v)
   past-there e = when-true Noted (v .there) _ (l a) e (cond-keeps Noted (l a .seen) (relast (l a) v) (firstSeen l source v) (refl, refl) (refl, refl))
 
   pub sites-after :
