@@ -101,7 +101,8 @@ pub data Handle : Step → Type 0 where
       → Handle step
   Nameless : (step : Step) → isNamed (rowOf (flatOf step .code)) 8 ≡ false → Handle step
 
--- of the message slot that a step looks at: a delivery and a drop are for the message there, an invoke, an ask and a tell find it empty, any other step leaves it
+-- of the message slot that a step looks at: a delivery and a drop are for the message there,
+-- an invoke, an ask and a tell find it empty, any other step leaves it
 pub data Post : Step → Type 0 where
   Delivers : (m : ℕ) → Post (Step.Deliver m)
   Drops : (m : ℕ) → Post (Step.Drop m)

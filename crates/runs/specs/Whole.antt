@@ -5,3 +5,4 @@ pub mod Whole
 pub mod CommitIsWhole
 pub mod NoCrash
 pub mod Lost
+pub mod Done

@@ -176,5 +176,7 @@ close-is-the-word {t₀} fresh before h between a kept alive closes = go (passag
     go Status.Committing e y = close-commits fresh ss h e closes
     go Status.Aborted e y = absurd (alive e)
     go Status.Committed e y =
-        over-after-step (runOf t₀ ss) (ledgersOf t₀ ss) (Step.Close h) (slotOf h) (pledged-run fresh ss) slot (ap isOver e) (and-false (isAccepted (stepOf (runOf t₀ ss) (Step.Close h) .answer)))
+        over-after-step (runOf t₀ ss) (ledgersOf t₀ ss) (Step.Close h) (slotOf h) (pledged-run fresh ss) slot
+        (ap isOver e)
+        (and-false (isAccepted (stepOf (runOf t₀ ss) (Step.Close h) .answer)))
         ∙ e

@@ -2,7 +2,7 @@
 use Prim.Native.Nat.{ℕ, _<_}
 use mathlib.Core.Path.{_≡_, refl, sym, ap, _∙_}
 use mathlib.Core.Logic.{_≢_}
-use mathlib.Core.Bool.{true, false, false≢true}
+use mathlib.Core.Bool.{true, false≢true}
 use mathlib.Core.List.{List}
 use Rattle.rules.specs.declared.looking.Trip.{Trip}
 use Rattle.rules.specs.Tables.{start, passageAt, messageAt, pastPassage, freeSlot}

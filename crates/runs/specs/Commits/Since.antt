@@ -102,6 +102,28 @@ module _ (t : Tables) (at : Places) (left : Seen) (z : Sized t) (h : Placed at) 
             (mail-after-other (at .slot) p (messageAt t (at .message)) (left .message) (x .mail) n i);
       })
 
+-- what is true of the view and the ledger that a store makes of its own slot is true of that slot in the tables, if it leaves the slot in use
+pub own-leads :
+    (P : View → Ledger → Type 0) (t : Tables) (at : Places) (left : Seen) → Sized t → Placed at → (ls : ℕ → Ledger)
+    → isFree (left .passage .status) ≡ false
+    → P
+    (leftView (viewOf t (at .slot)) (at .site) (at .message) (left .passage) (left .visit) (left .site .clock) (mailOf (at .slot) (left .message)))
+    (ledgerNoted (ls (at .slot)) (at .site) (messageAt t (at .message) .source) (left .visit))
+    → P (viewOf (stored t at left) (at .slot)) (nextLedgers ls at (seenOf t at) left (at .slot))
+own-leads P t at left z h ls free x =
+    subst₂ P
+    (sym (own-view t at left z h))
+    (sym
+    (when-false
+    (λ (l : Ledger). l ≡ ledgerNoted (ls (at .slot)) (at .site) (messageAt t (at .message) .source) (left .visit))
+    (isFree (left .passage .status))
+    noLedger
+    _
+    free
+    refl)
+    ∙ sym (put-same ls (at .slot) (nextLedger (ls (at .slot)) (at .site) (seenOf t at) left)))
+    x
+
 -- no accepted step of a list retires the slot: not the first, and none of the rest
 pub not-retired :
     (p : ℕ) (t : Tables) (s : Step) (ss : List Step) → isRetired p (historyOf t (s ∷ ss)) ≡ false
@@ -168,17 +190,7 @@ module _ (P : View → Ledger → Type 0) (Way : Trip → View → Type 0) (carr
       let free : isFree (left .passage .status) ≡ false =
       used-moved move (own-retire t step (deedOf step .generation) (subst (λ (q : ℕ). retires q step ≡ false) own r)) (carries .used hold here) in
       subst (λ (q : ℕ). P (viewOf (stored t at left) q) (nextLedgers ls at (seenOf t at) left q)) (sym own)
-      (subst₂ P
-      (sym (own-view t at left (k .kept .sound .sized) (placed-places t (lookOf step))))
-      (sym
-      (when-false
-      (λ (l : Ledger). l ≡ ledgerNoted (ls (at .slot)) (at .site) (messageAt t (at .message) .source) (left .visit))
-      (isFree (left .passage .status))
-      noLedger
-      _
-      free
-      refl)
-      ∙ sym (put-same ls (at .slot) (nextLedger (ls (at .slot)) (at .site) (seenOf t at) left)))
+      (own-leads P t at left (k .kept .sound .sized) (placed-places t (lookOf step)) ls free
       (carries .moved (ls (at .slot)) (messageAt t (at .message) .source) hold (k .vows (at .slot) (placed-places t (lookOf step) .slot)) here move free)))
       (λ n.
       rested t at left (k .kept .sound .sized) (placed-places t (lookOf step)) (fitting-after-decided t (k .kept .range) step e) n ls k y)

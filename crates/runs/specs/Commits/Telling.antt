@@ -240,7 +240,8 @@ alive-moved {w = w} {a = a} {p = p} {v = v} l h y none (Move.Sends d b e was x i
     (ap (λ (u : Visit). u .there) x)
     (ap (λ (u : Visit). u .prepared) x)
     (ap (λ (u : Visit). u .dead) x)
-alive-moved {w = w} {a = a} {p = p} {v = v} l h y none (Move.Tells e x i home two silent word uncalled) = alive-same w a p v y (ap (λ (q : Passage). q .home) e) x
+alive-moved {w = w} {a = a} {p = p} {v = v} l h y none (Move.Tells e x i home two silent word uncalled) =
+    alive-same w a p v y (ap (λ (q : Passage). q .home) e) x
 alive-moved {w = w} {a = a} {p = p} {v = v} l h y none (Move.Begins free status round unmarked i z) =
     put-all (w .visit) a v
     (λ s x. s ≢ p .home → x .there ≡ true → x .prepared ≡ true → x .dead ≡ false)

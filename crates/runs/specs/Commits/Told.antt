@@ -1,6 +1,7 @@
 -- A commit can be told: a committed passage goes on telling, a tell to a station where it has a visit is accepted, and so is the delivery of that word,
 -- after which nothing of the passage is left there.
--- The idea: the tell leaves all but home's clock and one message slot; the visit that its word finds is prepared, so it is alive and of the round. Assumes nothing.
+-- The idea: the tell leaves all but home's clock and one message slot; the visit that its word finds is prepared, so it is alive and of the round.
+-- Assumes nothing.
 use Prim.Native.Nat.{ℕ, _+_, _%_, _<_, _≤_, min, max}
 use native.Mathlib.Omega.{arith}
 use mathlib.Core.Path.{_≡_, refl, sym, ap, _∙_, subst}

@@ -1,7 +1,7 @@
 -- What the vow says of a passage's status and of its round. Assumes nothing.
 use mathlib.Core.Path.{_≡_, refl, sym, ap, _∙_, subst}
 use mathlib.Core.Logic.{_≢_, inl, inr}
-use mathlib.Core.Bool.{true, false, true≢false, false≢true}
+use mathlib.Core.Bool.{true, true≢false, false≢true}
 use Rattle.rules.specs.Parts.{isActive, isRunning, isAborted, isPhaseOne, isPhaseTwo}
 use Rattle.runs.specs.Types.{Kind, Phase, Status, Passage}
 use Rattle.runs.specs.Walk.Says.{isBinding, isPrepare}

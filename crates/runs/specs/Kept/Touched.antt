@@ -16,7 +16,7 @@ use Rattle.runs.specs.Types.{Figures, Status, Visit, Call, Told, Body, M
 use Rattle.runs.specs.Walk.Says.{isBinding}
 use Rattle.runs.specs.Walk.Put.{put, put-same, put-other, put-all, same-or-other, sum-put}
 use Rattle.runs.specs.Times.View.{View, Past, Ledger, relast}
-use Rattle.runs.specs.Times.Clauses.{callTo, Below, Quiet, InAnswer, Figure, FigureFine, EdgeFine, SiteFine, CallFine, ToldFine, BodyFine, Posted, PassageFine, isCallTo, callsTo, receivedBy, sentBy, Balanced, Holds}
+use Rattle.runs.specs.Times.Clauses.{callTo, Below, Quiet, InAnswer, Figure, FigureFine, EdgeFine, SiteFine, CallFine, ToldFine, BodyFine, Posted, PassageFine, callsTo, receivedBy, sentBy, Balanced, Holds}
 use Rattle.runs.specs.Kept.Shrunk.{around}
 
 -- a sum over places with one place changed

@@ -23,7 +23,7 @@ use Rattle.rules.specs.Passages.{beginOf, beginDone, abortOf, abortDone, retire
 use Rattle.rules.specs.Rounds.{openChecks, openOf, openDone, refreshOf, terminateOf, prepareOf, askOf, askDone, closeOf, closeDone, tellChecks, tellOf, tellDone, tellBody}
 use Rattle.rules.specs.Calls.{callSite, callOf, invokeChecks, mailClock, calledVisit, callChecks, callDone, roundChecks, atHome, phaseOneDone, phaseTwoDone, answerChecks, answerDone, invokeOf, invokeDone, emptyOf, deliverCallOf, deliverPhaseOneOf, deliverPhaseTwoOf, deliverAnswerOf, deliverBodyOf, dropOf, dropDone}
 use Rattle.rules.specs.Machine.{looksHome, placesOf, seenOf, decideOf, foundOf, slotPlaces, tripPlaces, turnSeen, isMessageOf}
-use Rattle.runs.specs.Types.{Kind, Status, Visit, Call, Asked, Told, Body, Message, Tables, Step, Places, Seen, Decision}
+use Rattle.runs.specs.Types.{Kind, Status, Call, Asked, Told, Body, Message, Tables, Step, Places, Seen, Decision}
 use Rattle.runs.specs.Walk.Says.{isPrepare, tellsPrepare, carriesCommit}
 use Rattle.runs.specs.Walk.Steps.{placesAt, seenAt}
 use Rattle.runs.specs.Times.View.{Ledger, mailOf, viewOf}

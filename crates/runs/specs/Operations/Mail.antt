@@ -1,4 +1,5 @@
--- A message waits as it was sent: a full message slot is left as it was by every step but its own accepted delivery and its own accepted drop, of any sound tables.
+-- A message waits as it was sent, of any sound tables:
+-- a full message slot is left as it was by every step but its own accepted delivery and its own accepted drop.
 -- So what an invoke says is what is done where its call is delivered, whatever comes between. Assumes nothing.
 use Prim.Native.Nat.{ℕ, _%_, _<_, _≤_}
 use native.Mathlib.Omega.{arith}
@@ -106,7 +107,11 @@ module _ (t : Tables) (step : Step) (m : ℕ) (z : Sound t) (full : isEmpty (mes
   mail-stays =
       ⊎-elim
       (λ other. inl (mail-left other))
-      (λ own. ⊎-elim (λ a. inr (a, own)) (λ a. inl (ap (λ (u : Tables). messageAt u m) (refused-leaves t step a))) (either (isAccepted (stepOf t step .answer))))
+      (λ own.
+      ⊎-elim
+      (λ a. inr (a, own))
+      (λ a. inl (ap (λ (u : Tables). messageAt u m) (refused-leaves t step a)))
+      (either (isAccepted (stepOf t step .answer))))
       (for-other step (deedOf step .post))
 
 -- ---- a list of steps

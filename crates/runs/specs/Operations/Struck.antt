@@ -100,7 +100,8 @@ module _ (t : Tables) (s : ℕ) (z : Sound t) (a : isAccepted (stepOf t (Step.Cr
   -- a visit that is there and that the slot's own turn hits
   struck-visit :
       (p : ℕ) → p < 16 → visitAt t (s % 8) p .there ≡ true
-      → ((seen : Seen) → seen .passage ≡ passageAt t p → seen .visit ≡ visitAt t (s % 8) p → (losesHome s (seen .passage) || not (seen .visit .prepared)) ≡ true)
+      → ((seen : Seen) → seen .passage ≡ passageAt t p → seen .visit ≡ visitAt t (s % 8) p
+      → (losesHome s (seen .passage) || not (seen .visit .prepared)) ≡ true)
       → Dead (siteAt (stepOf t (Step.Crash s) .tables) (s % 8) .clock) (visitAt (stepOf t (Step.Crash s) .tables) (s % 8) p)
   unfolding crashedSlot
   struck-visit p slot e hit =

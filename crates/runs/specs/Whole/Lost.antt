@@ -1,26 +1,25 @@
--- A commit did all that was sent: a call that is dropped is counted as sent and is never received, so that no commit round closes any more.
--- So where a passage becomes committed, every call that it sent has been delivered, and did what its invoke said.
--- The idea: for each site, calls sent are never fewer than calls received and in flight, and no step but a drop makes that gap wider; none makes it narrower.
--- Assumes nothing.
+-- A call that is lost stays lost:
+-- of the calls that were sent to a site, one that is neither received nor in flight is never made up for while the slot is in use.
+-- The idea: no move makes the gap narrower between the calls sent to a site and those received there or in flight. Assumes nothing.
 use Prim.Native.Nat.{ℕ, _+_, _≤_, _<_}
 use native.Mathlib.Omega.{arith}
-use mathlib.Core.Path.{_≡_, refl, sym, ap, _∙_, subst}
-use mathlib.Core.Logic.{_≢_, ⊎-elim, _⊎_, inl, inr}
-use mathlib.Core.Bool.{Bool, true, false, cond, true≢false, false≢true}
+use mathlib.Core.Path.{_≡_, refl, sym, ap, _∙_}
+use mathlib.Core.Logic.{⊎-elim, inl, inr}
+use mathlib.Core.Bool.{true, false, cond, true≢false, false≢true}
 use mathlib.Core.List.{List}
 use lib.Dec.{eqb, ltb}
 use lib.ListN.{getD, length}
-use borrow.Author.Tests.{ltb-true, ltb-false, eq-eqb, ne-eqb}
+use borrow.Author.Tests.{ltb-true, ltb-false, eq-eqb}
 use Rattle.rules.specs.declared.looking.Trip.{Trip}
 use Rattle.rules.specs.Loops.{oneIf, sumUpTo}
 use Rattle.rules.specs.LoopsLaws.{either, cond-keeps, sum-same}
 use Rattle.rules.specs.Tables.{noMessage}
-use Rattle.rules.specs.Parts.{isFree, abortedPassage, askedVisit, askedOf, toldVisit, quieted, whereThere, countSent, countReceived, newVisit}
+use Rattle.rules.specs.Parts.{isFree, askedVisit, askedOf, toldVisit, quieted, whereThere, countSent, countReceived, newVisit}
 use Rattle.rules.specs.Rounds.{roundTold}
 use Rattle.rules.specs.Calls.{calledVisit}
 use Rattle.runs.specs.Types.{Passage, Visit, Call, Asked, Told, Body, Message, Step}
 use Rattle.runs.specs.Walk.Plain.{when-true, when-false}
-use Rattle.runs.specs.Walk.Put.{put, put-all, put-same, put-other, same-or-other}
+use Rattle.runs.specs.Walk.Put.{put, put-all, put-other}
 use Rattle.runs.specs.Times.View.{View, Past, Ledger, ledgerNoted, notedPast}
 use Rattle.runs.specs.Times.Clauses.{callTo, callsTo, receivedBy, sentBy, Holds}
 use Rattle.runs.specs.Times.Store.{leftView}
@@ -36,7 +35,7 @@ use Rattle.runs.specs.Commits.Over.{NoWay}
 -- ---- what is carried
 
 -- of the calls that were sent to site d, one at least is neither received nor in flight
-abbrev Short : ℕ → View → Ledger → Type 0
+abbrev pub Short : ℕ → View → Ledger → Type 0
 Short d w l = receivedBy (l d) + callsTo w d + 1 ≤ sumUpTo (λ s. sentBy d (l s)) 8
 
 -- ---- a store that moves no count
@@ -102,7 +101,8 @@ module _ (d : ℕ) (w : View) (l : Ledger) (h : Holds w l) (a k source : ℕ) (v
       d in
       let more : sentBy d (notedPast l (l a) source v) ≡ sentBy d (l a) + oneIf (eqb e d) =
       rw (noted .0, noted .1, was .0, was .1, is) (one-call-more (w .visit a .sent) e d (rw counts i)) in
-      let s : sumUpTo (λ j. sentBy d (ledgerNoted l a source v j)) 8 + sentBy d (l a) ≡ sumUpTo (λ j. sentBy d (l j)) 8 + sentBy d (notedPast l (l a) source v) =
+      let s : sumUpTo (λ j. sentBy d (ledgerNoted l a source v j)) 8 + sentBy d (l a)
+      ≡ sumUpTo (λ j. sentBy d (l j)) 8 + sentBy d (notedPast l (l a) source v) =
       sum-over-put (sentBy d) l a (notedPast l (l a) source v) 8 (h .sites a (was .0) .place) in
       let f : sumUpTo (λ j. callTo d (put (w .mail) k m j)) 32 ≤ callsTo w d + callTo d m = one-more in
       omega (arith, short, call)
@@ -125,7 +125,9 @@ module _ (d : ℕ) (w : View) (l : Ledger) (h : Holds w l) (a k source : ℕ) (v
       to-here : callTo a (w .mail k) ≡ 1
       to-here = rw (body, eq-eqb (w .mail k .destination) a (sym at))
 
-      grown : (j : ℕ) → (sentBy d (l j) ≤ sentBy d (ledgerNoted l a source v j)) × (receivedBy (ledgerNoted l a source v j) ≤ receivedBy (l j) + callTo j (w .mail k))
+      grown :
+          (j : ℕ) → (sentBy d (l j) ≤ sentBy d (ledgerNoted l a source v j))
+          × (receivedBy (ledgerNoted l a source v j) ≤ receivedBy (l j) + callTo j (w .mail k))
       grown =
           sites-after w l a source v
           (λ j x y. (sentBy d (l j) ≤ sentBy d y) × (receivedBy y ≤ receivedBy (l j) + callTo j (w .mail k)))
@@ -146,8 +148,9 @@ module _ (d : ℕ) (w : View) (l : Ledger) (h : Holds w l) (a k source : ℕ) (v
               v .there ≡ true → (y : Past) → y .seen ≡ true → y .last ≡ v → w .visit a .there ≡ false
               → (sentBy d (l a) ≤ sentBy d y) × (receivedBy y ≤ receivedBy (l a) + callTo a (w .mail k))
           made there y seen last gone =
-              let new : v ≡ countReceived (newVisit (call .quiesce) (call .release) (call .round)) =
-              is ∙ ap countReceived (when-false (λ (x : Visit). x ≡ newVisit (call .quiesce) (call .release) (call .round)) (w .visit a .there) (w .visit a) _ gone refl) in
+              let fresh : Visit = newVisit (call .quiesce) (call .release) (call .round) in
+              let new : v ≡ countReceived fresh =
+              is ∙ ap countReceived (when-false (λ (x : Visit). x ≡ fresh) (w .visit a .there) (w .visit a) _ gone refl) in
               (rw (unseen gone there) (omega arith), rw (seen, last, new, unseen gone there, to-here) (omega arith))
 
 -- ---- every move
@@ -249,11 +252,11 @@ module _ (d : ℕ) where
       (omega arith)
 
   -- the slot is in use, and of the calls that were sent to d one is lost
-  record LostTo (w : View) (l : Ledger) : Type 0 where
-    used : isFree (w .passage .status) ≡ false
-    short : Short d w l
+  pub record LostTo (w : View) (l : Ledger) : Type 0 where
+    pub used : isFree (w .passage .status) ≡ false
+    pub short : Short d w l
 
-  lost-carries : Carries LostTo NoWay
+  pub lost-carries : Carries LostTo NoWay
   lost-carries =
       record {
         moved = λ l source h o x move u. record { used = u; short = short-moved l source h (x .used) u move (x .short) };

@@ -4,13 +4,13 @@
 use Prim.Native.Nat.{ℕ, _<_}
 use mathlib.Core.Path.{_≡_, refl, sym, ap, _∙_, subst}
 use mathlib.Core.Logic.{_≢_, ⊎-elim, _⊎_, inl, inr}
-use mathlib.Core.Bool.{Bool, true, false, cond, _&&_, true≢false, false≢true}
+use mathlib.Core.Bool.{true, false, true≢false, false≢true}
 use mathlib.Core.List.{List, _∷_, _++_}
 use Rattle.rules.specs.declared.looking.Trip.{Trip}
 use Rattle.rules.specs.LoopsLaws.{either, cond-keeps}
 use Rattle.rules.specs.Tables.{passageAt, visitAt}
 use Rattle.rules.specs.Answers.{isAccepted}
-use Rattle.rules.specs.Parts.{isFree, isOver, abortedPassage, askedVisit, askedOf, quieted, whereThere}
+use Rattle.rules.specs.Parts.{isFree, isOver, abortedPassage, askedVisit, askedOf, quieted}
 use Rattle.rules.specs.Rounds.{roundTold}
 use Rattle.rules.specs.Machine.{stepOf}
 use Rattle.rules.specs.Runs.{Started, runOf, historyOf}
@@ -19,7 +19,7 @@ use Rattle.runs.specs.Walk.Says.{isPrepare}
 use Rattle.runs.specs.Walk.Plain.{when-true}
 use Rattle.runs.specs.Walk.Put.{put, same-or-other}
 use Rattle.runs.specs.Walk.Steps.{run-on, ghostStep}
-use Rattle.runs.specs.Times.View.{View, Past, Ledger, viewOf, ledgerNoted}
+use Rattle.runs.specs.Times.View.{View, Ledger, ledgerNoted}
 use Rattle.runs.specs.Times.Clauses.{Holds}
 use Rattle.runs.specs.Times.Ledgers.{headLedgers, turnLedgers, ledgersOf}
 use Rattle.runs.specs.Orphans.Orphans.{isRetired}
@@ -145,7 +145,12 @@ module _ (s : ℕ) where
       record {
         moved =
             λ {step} {w} {a} {k} {c} {p} {v} {m} l source h o g move u.
-            let x = struck-after w l a source v g (λ missing there seen. true≢false (sym seen ∙ made-at-unseen l h move missing there)) (dead-moved l h move) s refl in
+            let x =
+            struck-after w l a source v g
+            (λ missing there seen. true≢false (sym seen ∙ made-at-unseen l h move missing there))
+            (dead-moved l h move)
+            s
+            refl in
             record { seen = x .0; dead = x .1 };
         turned =
             λ {w} {a} {p} {v} trip l source k at h o g way turn.
@@ -184,7 +189,9 @@ commit-rests-on-no-crash {t₀} fresh before site between commit p slot crashed 
     (λ (home : site ≡ passageAt t p .home).
     ⊎-elim
     (λ runs. over Status.Aborted refl (struck .aborted runs (sym home)))
-    (λ done. over (passageAt t p .status) done (over-after-step t (ledgersOf t₀ before) (Step.Crash site) p pledged slot done (not-retired p t (Step.Crash site) between kept .0)))
+    (λ done.
+    over (passageAt t p .status) done
+    (over-after-step t (ledgersOf t₀ before) (Step.Crash site) p pledged slot done (not-retired p t (Step.Crash site) between kept .0)))
     (runs-or-over (passageAt t p .status) refl))
     away
     (same-or-other site (passageAt t p .home))
