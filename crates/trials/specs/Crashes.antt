@@ -176,6 +176,49 @@ closedDown =
     ∷ Step.Deliver 0 gives 0  -- clock 1: 11
     ∷ []
 
+-- home 7, slot 10: home goes down while the terminate of an aborted passage is open, and closes it when it is up again
+abbrev pub terminateGoesOn : List Line
+terminateGoesOn =
+    Step.Begin 7 10 60 70 gives 10  -- clock 7: 1
+    ∷ Step.Abort 10 gives 0  -- 2
+    ∷ Step.Terminate 10 gives 1  -- 3
+    ∷ Step.Crash 7 gives 0  -- 4
+    ∷ Step.Recover 7 gives 0  -- 5
+    ∷ Step.Close 10 gives 1  -- 6
+    ∷ []
+
+-- home 4, slot 6: a call arrives while home is down, and its station calls back toward home, where the visit is dead
+abbrev pub calledWhileDown : List Line
+calledWhileDown =
+    Step.Begin 4 6 60 70 gives 6  -- clock 4: 1
+    ∷ Step.Invoke 6 4 1 31 310 gives 0  -- 2
+    ∷ Step.Crash 4 gives 0  -- 3
+    ∷ Step.Deliver 0 gives 0  -- clock 7: 3
+    ∷ Step.Invoke 6 7 0 18 0 gives 0  -- 4
+    ∷ Step.Deliver 0 refusedBy 4
+    ∷ Step.Recover 4 gives 0  -- clock 4: 4
+    ∷ Step.Deliver 0 refusedBy 8
+    ∷ []
+
+-- home 1, slot 5: a terminate's word reaches a dead visit at station 6, and lets it be swept
+abbrev pub deadIsTold : List Line
+deadIsTold =
+    Step.Begin 1 5 60 70 gives 5  -- clock 1: 1
+    ∷ Step.Invoke 5 1 1 24 2400 gives 0  -- 2
+    ∷ Step.Deliver 0 gives 0  -- clock 6: 3
+    ∷ Step.Crash 6 gives 0  -- 4
+    ∷ Step.Recover 6 gives 0  -- 5
+    ∷ Step.Abort 5 gives 0  -- clock 1: 3
+    ∷ Step.Terminate 5 gives 1  -- 4
+    ∷ Step.Ask 5 6 gives 0  -- 5
+    ∷ Step.Deliver 0 gives 0  -- clock 6: 6
+    ∷ Step.Deliver 0 gives 0  -- clock 1: 7
+    ∷ Step.Close 5 gives 2  -- 8; the largest Q is 4, of the crash
+    ∷ Step.Tell 5 6 gives 0  -- 9
+    ∷ Step.Deliver 0 gives 0  -- clock 6: 10
+    ∷ Step.Sweep 6 gives 1  -- 11
+    ∷ []
+
 abbrev pub crashRows : List Row
 crashRows =
     -- a crash: what stands while the station is down, and then
@@ -222,7 +265,31 @@ crashRows =
     ∷ [])
     ∷ []
 
+abbrev pub outageRows : List Row
+outageRows =
+    -- a crash of home leaves the round of a passage that is aborted already
+    lines terminateGoesOn
+    (clock 7 6 ∷ up 7 1 ∷ status 10 Status.Aborted ∷ round 10 1 Phase.Two ∷ visit 7 10 2 2 1 0 ∷ dead 7 10 1 ∷ [])
+    -- calls from a home that is down, and toward it
+    ∷ lines calledWhileDown
+    (clock 4 4 ∷ clock 7 4 ∷ status 6 Status.Aborted ∷ visit 4 6 3 70 0 0 ∷ dead 4 6 1 ∷ visit 7 6 60 70 0 1 ∷ dead 7 6 0 ∷ width 31 310
+    ∷ holder 31 (Holder.Slot 6)
+    ∷ mail 0 1
+    ∷ [])
+    -- a dead visit is told of a terminate
+    ∷ lines deadIsTold
+    (clock 1 9 ∷ clock 6 11 ∷ status 5 Status.Aborted ∷ round 5 1 Phase.Two ∷ visit 1 5 3 4 1 0 ∷ unvisited 6 5 ∷ width 24 0
+    ∷ holder 24 Holder.Nobody
+    ∷ mail 0 0
+    ∷ [])
+    ∷ []
+
 -- every crash is as document 01 says
 pub crashes-hold : map found crashRows ≡ map wanted crashRows
 unfolding found wanted
 crashes-hold = refl
+
+-- and every outage
+pub outages-hold : map found outageRows ≡ map wanted outageRows
+unfolding found wanted
+outages-hold = refl

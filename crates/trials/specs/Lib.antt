@@ -6,5 +6,6 @@ pub mod Undone
 pub mod Crashes
 pub mod Mail
 pub mod Refusals
+pub mod Handed
 pub mod Sheets
 pub mod Trials

@@ -1,4 +1,4 @@
--- The second table of cases, mail: what comes late, and a full message table.
+-- The second table of cases, mail: what comes late, what waits, and a full message table.
 -- The answers were worked out by hand from document 01; a clock beside a line is that of the acting station after it. Assumes nothing.
 use Prim.Native.Nat.{ℕ, zero, suc}
 use mathlib.Core.Path.{_≡_, refl}
@@ -100,6 +100,51 @@ lateClock =
     ∷ Step.Tick 2 1 gives 1000010
     ∷ []
 
+-- home 3, slot 8: a call waits in message slot 0 while ticks, sweeps, a crash and other messages pass, and arrives as it was sent
+abbrev pub callWaits : List Line
+callWaits =
+    Step.Begin 3 8 60 70 gives 8  -- clock 3: 1
+    ∷ Step.Invoke 8 3 1 6 30000 gives 0  -- 2
+    ∷ Step.Tick 3 1 gives 3
+    ∷ Step.Tick 1 1 gives 1
+    ∷ Step.Tick 2 1 gives 1
+    ∷ Step.Sweep 3 gives 0  -- 4
+    ∷ Step.Sweep 0 gives 0  -- clock 0: 1
+    ∷ Step.Crash 5 gives 0  -- clock 5: 1
+    ∷ Step.Recover 5 gives 0  -- 2
+    ∷ Step.Begin 5 4 60 70 gives 4  -- 3
+    ∷ Step.Invoke 8 3 0 13 0 gives 1  -- clock 3: 5
+    ∷ Step.Deliver 1 gives 0  -- 6
+    ∷ Step.Invoke 4 5 1 9 900 gives 1  -- clock 5: 4
+    ∷ Step.Drop 1 gives 0
+    ∷ Step.Abort 4 gives 0  -- 5
+    ∷ Step.Deliver 0 gives 0  -- clock 1: 3
+    -- the stamp was 2
+    ∷ Step.Tick 1 1 gives 4
+    ∷ Step.Invoke 8 3 0 6 0 gives 0  -- clock 3: 7
+    ∷ Step.Deliver 0 gives 30000  -- clock 1: 8
+    ∷ []
+
+-- home 3, slot 2: a commit is asked, told and retired while twenty calls of slot 14 wait
+abbrev pub twentyWait : List Line
+twentyWait =
+    (Step.Begin 5 14 1000 1010 gives 14 ∷ [])  -- clock 5: 1
+    ++ callsUpTo 20  -- 2 to 21
+    ++ (Step.Begin 3 2 60 70 gives 2  -- clock 3: 1
+    ∷ Step.Invoke 2 3 1 8 880 gives 20  -- 2
+    ∷ Step.Deliver 20 gives 0  -- clock 2: 3
+    ∷ Step.Prepare 2 gives 1  -- clock 3: 3
+    ∷ Step.Ask 2 2 gives 20  -- 4
+    ∷ Step.Deliver 20 gives 0  -- clock 2: 5
+    ∷ Step.Deliver 20 gives 0  -- clock 3: 6
+    ∷ Step.Close 2 gives 2  -- 7
+    ∷ Step.Tell 2 2 gives 20  -- 8
+    -- the word is a message of it
+    ∷ Step.Retire 2 refusedBy 5
+    ∷ Step.Deliver 20 gives 0  -- clock 2: 9
+    ∷ Step.Retire 2 gives 0
+    ∷ [])
+
 abbrev pub mailRows : List Row
 mailRows =
     -- two calls to one station, one delivered late
@@ -126,7 +171,25 @@ mailRows =
     ∷ lines lateClock (clock 4 1000008 ∷ clock 2 1000010 ∷ visit 2 9 4000000 4000010 1 1 ∷ visit 4 9 4000000 4000010 1 0 ∷ mail 0 0 ∷ [])
     ∷ []
 
+abbrev pub waitingRows : List Row
+waitingRows =
+    -- what waits is left alone
+    lines callWaits
+    (clock 3 7 ∷ clock 1 8 ∷ clock 5 5 ∷ clock 2 1 ∷ clock 0 1 ∷ visit 1 8 60 70 0 2 ∷ sent 3 8 (0 ∷ 2 ∷ 0 ∷ 1 ∷ 0 ∷ 0 ∷ 0 ∷ 0 ∷ []) ∷ width 6 30000
+    ∷ width 9 0
+    ∷ mail 0 0
+    ∷ [])
+    -- what waits is in nobody's way
+    ∷ lines twentyWait
+    (clock 5 21 ∷ clock 3 8 ∷ clock 2 9 ∷ status 2 Status.Free ∷ status 14 Status.Active ∷ width 8 880 ∷ mail 0 1 ∷ mail 19 1 ∷ mail 20 0 ∷ [])
+    ∷ []
+
 -- every message is as document 01 says
 pub mails-hold : map found mailRows ≡ map wanted mailRows
 unfolding found wanted
 mails-hold = refl
+
+-- and every message that waits
+pub waits-hold : map found waitingRows ≡ map wanted waitingRows
+unfolding found wanted
+waits-hold = refl

@@ -1,4 +1,4 @@
--- The second table of cases, refusals: a field that no step has, a field out of range, a wrong state, the last clock, the full count, tables out of range.
+-- The second table of cases, refusals: a field that no step has, a field out of range, a wrong state, the last clock, the full count.
 -- The answers were worked out by hand from document 01; a clock beside a line is that of the acting station after it. Assumes nothing.
 use Prim.Native.Nat.{ℕ}
 use mathlib.Core.Bool.{true, false}
@@ -6,8 +6,7 @@ use mathlib.Core.Path.{_≡_, refl}
 use mathlib.Core.List.{List, [], _∷_, _++_, map}
 use lib.ListN.{replicate, set}
 use Rattle.rules.specs.Tables.{start, noCounts, noRound, putSite, putPassage, putVisit}
-use Rattle.rules.specs.Record.{recordOfStep}
-use Rattle.rules.specs.Rows.{Row, Line, _gives_, _refusedBy_, runOn, run, accepted, refused, linesOn, lines, clock, holder, status, generation, visit, unvisited, sent, mail, found, wanted}
+use Rattle.rules.specs.Rows.{Row, Line, _gives_, _refusedBy_, run, accepted, refused, linesOn, lines, clock, holder, status, generation, round, visit, unvisited, sent, mail, found, wanted}
 use Rattle.trials.specs.Types.{Holder, Kind, Phase, Status, Tables, Step}
 
 -- ---- 1, byte by byte: "code unknown, or an unnamed field isn't 0"
@@ -62,6 +61,32 @@ wideFields =
     ∷ Step.Tick 7 1000000 gives 1000000
     ∷ []
 
+-- ---- 2 for handle 4,096, whose slot is 0 and in use, and 3 for handle 4,095, whose slot is 15 and free
+
+abbrev pub wideHandles : List Line
+wideHandles =
+    Step.Begin 1 0 60 70 gives 0  -- clock 1: 1
+    ∷ Step.Invoke 4096 1 0 9 0 refusedBy 2
+    ∷ Step.Refresh 4096 80 90 refusedBy 2
+    ∷ Step.Terminate 4096 refusedBy 2
+    ∷ Step.Prepare 4096 refusedBy 2
+    ∷ Step.Ask 4096 2 refusedBy 2
+    ∷ Step.Close 4096 refusedBy 2
+    ∷ Step.Tell 4096 2 refusedBy 2
+    ∷ Step.Abort 4096 refusedBy 2
+    ∷ Step.Retire 4096 refusedBy 2
+    ∷ Step.Abort 65535 refusedBy 2
+    ∷ Step.Invoke 4095 1 0 9 0 refusedBy 3
+    ∷ Step.Refresh 4095 80 90 refusedBy 3
+    ∷ Step.Terminate 4095 refusedBy 3
+    ∷ Step.Prepare 4095 refusedBy 3
+    ∷ Step.Ask 4095 2 refusedBy 3
+    ∷ Step.Close 4095 refusedBy 3
+    ∷ Step.Tell 4095 2 refusedBy 3
+    ∷ Step.Abort 4095 refusedBy 3
+    ∷ Step.Retire 4095 refusedBy 3
+    ∷ []
+
 -- ---- 5, home 6, slot 7: active, committing, committed
 
 abbrev pub wrongStates : List Line
@@ -69,21 +94,70 @@ wrongStates =
     Step.Begin 6 7 100 200 gives 7  -- clock 6: 1
     ∷ Step.Begin 2 7 100 200 refusedBy 5
     ∷ Step.Ask 7 2 refusedBy 5
+    ∷ Step.Close 7 refusedBy 5
+    ∷ Step.Tell 7 2 refusedBy 5
     ∷ Step.Terminate 7 refusedBy 5
     ∷ Step.Retire 7 refusedBy 5
     ∷ Step.Prepare 7 gives 1  -- 2
     ∷ Step.Refresh 7 300 400 refusedBy 5
+    ∷ Step.Terminate 7 refusedBy 5
+    ∷ Step.Retire 7 refusedBy 5
     ∷ Step.Ask 7 6 refusedBy 5
     ∷ Step.Tell 7 2 refusedBy 5
     -- a prepare may follow a prepare
     ∷ Step.Prepare 7 gives 2  -- 3
     ∷ Step.Close 7 gives 1  -- 4
+    ∷ Step.Refresh 7 300 400 refusedBy 5
+    ∷ Step.Terminate 7 refusedBy 5
+    ∷ Step.Ask 7 2 refusedBy 5
     ∷ Step.Prepare 7 refusedBy 5
     ∷ Step.Abort 7 refusedBy 5
     ∷ Step.Close 7 refusedBy 5
     ∷ Step.Tell 7 6 refusedBy 5
     ∷ Step.Tell 7 2 refusedBy 5
     ∷ Step.Retire 7 gives 0
+    ∷ []
+
+-- ---- 5, home 4, slot 13, aborted in phase 1 of a refresh: in phase none, and in phase 2 of its terminate
+
+abbrev pub abortedStates : List Line
+abortedStates =
+    Step.Begin 4 13 60 70 gives 13  -- clock 4: 1
+    ∷ Step.Invoke 13 4 0 23 0 gives 0  -- 2
+    ∷ Step.Deliver 0 gives 0  -- clock 5: 3
+    ∷ Step.Refresh 13 80 90 gives 1  -- clock 4: 3
+    ∷ Step.Ask 13 5 gives 0  -- 4
+    ∷ Step.Deliver 0 gives 0  -- clock 5: 5
+    ∷ Step.Deliver 0 gives 0  -- clock 4: 6
+    -- station 5 has answered, and the round is not closed
+    ∷ Step.Tell 13 5 refusedBy 5
+    ∷ Step.Abort 13 gives 0  -- 7
+    ∷ Step.Begin 4 13 60 70 refusedBy 5
+    ∷ Step.Refresh 13 90 100 refusedBy 5
+    ∷ Step.Prepare 13 refusedBy 5
+    ∷ Step.Ask 13 5 refusedBy 5
+    ∷ Step.Close 13 refusedBy 5
+    ∷ Step.Tell 13 5 refusedBy 5
+    ∷ Step.Abort 13 refusedBy 5
+    ∷ Step.Retire 13 refusedBy 5
+    -- home's Q is 7, that of station 5 is 60
+    ∷ Step.Invoke 13 4 0 23 0 refusedBy 8
+    ∷ Step.Invoke 13 5 0 22 0 gives 0  -- clock 5: 6
+    ∷ Step.Deliver 0 gives 0  -- 7
+    ∷ Step.Terminate 13 gives 2  -- clock 4: 8
+    ∷ Step.Tell 13 5 refusedBy 5
+    ∷ Step.Ask 13 4 refusedBy 5
+    ∷ Step.Ask 13 5 gives 0  -- 9
+    ∷ Step.Deliver 0 gives 0  -- clock 5: 10
+    ∷ Step.Deliver 0 gives 0  -- clock 4: 11
+    ∷ Step.Close 13 gives 2  -- 12; the largest Q is 10, of station 5
+    ∷ Step.Refresh 13 90 100 refusedBy 5
+    ∷ Step.Prepare 13 refusedBy 5
+    ∷ Step.Ask 13 5 refusedBy 5
+    ∷ Step.Close 13 refusedBy 5
+    ∷ Step.Tell 13 3 refusedBy 5
+    ∷ Step.Abort 13 refusedBy 5
+    ∷ Step.Retire 13 refusedBy 5
     ∷ []
 
 -- ---- 8, home 5, slot 3, Q 10 and R 20: a call goes out and comes in at 9 and not at 10, a sweep releases at 20 and not at 19
@@ -126,7 +200,7 @@ whichFirst =
     ∷ Step.Begin 0 3 100 200 refusedBy 4
     ∷ []
 
--- ---- 7, 11 and 20, on tables that are handed in
+-- ---- 7, 11 and 5, on tables that are handed in
 
 -- the start, with another clock at a station
 abbrev pub startAt : ℕ → ℕ → Tables
@@ -197,29 +271,10 @@ abbrev pub lastGeneration : Tables
 lastGeneration =
     putPassage start 9 (record { status = Status.Committed; home = 4; round = noRound; generation = 255 })
 
--- the start, with another width of an object
-abbrev pub startWith : ℕ → ℕ → Tables
-startWith k n =
-    record {
-      sites = start .sites;
-      objects = set (start .objects) k (record { value = n; holder = Holder.Nobody; before = 0 });
-      passages = start .passages;
-      visits = start .visits;
-      messages = start .messages;
-    }
-
--- the start, with a round of kind none in phase 1
-abbrev pub startInPhase : Tables
-startInPhase =
-    putPassage
-    start
-    15
-    (record {
-      status = Status.Free;
-      home = 0;
-      round = record { number = 0; kind = Kind.None; phase = Phase.One; answered = 0; figures = noRound .figures };
-      generation = 0;
-    })
+-- slot 9 at home 4, in generation 3, with nothing of it left: handle 9 + 16 × 3
+abbrev pub nothingLeft : Status → Tables
+nothingLeft status =
+    putPassage start 9 (record { status = status; home = 4; round = noRound; generation = 3 })
 
 abbrev pub refusalRows : List Row
 refusalRows =
@@ -227,8 +282,11 @@ refusalRows =
     run strayBytes (replicate 10 (refused 1) ++ (accepted 0 ∷ [])) (clock 3 1 ∷ [])
     -- 2
     ∷ lines wideFields (clock 3 1 ∷ clock 7 1000000 ∷ visit 3 15 999999990 1000000000 0 0 ∷ [])
+    ∷ lines wideHandles (clock 1 1 ∷ status 0 Status.Active ∷ generation 0 0 ∷ round 0 0 Phase.None ∷ mail 0 0 ∷ [])
     -- 5
     ∷ lines wrongStates (clock 6 4 ∷ status 7 Status.Free ∷ generation 7 1 ∷ [])
+    ∷ lines abortedStates
+    (clock 4 12 ∷ clock 5 10 ∷ status 13 Status.Aborted ∷ round 13 2 Phase.Two ∷ visit 4 13 7 10 2 0 ∷ visit 5 13 10 90 2 2 ∷ mail 0 0 ∷ [])
     -- 8
     ∷ lines onTime (clock 5 20 ∷ clock 0 30 ∷ status 3 Status.Free ∷ generation 3 1 ∷ [])
     -- 8 and 10, 4 and 5
@@ -242,13 +300,10 @@ refusalRows =
     lastGeneration
     (Step.Retire 9 refusedBy 3 ∷ Step.Retire 4089 gives 0 ∷ Step.Begin 4 9 100 200 gives 9 ∷ Step.Abort 4089 refusedBy 3 ∷ [])
     (clock 4 1 ∷ generation 9 0 ∷ [])
-    -- 20: a width of 1,000,001, with a step, and with a record that would be refused by 1
-    ∷ runOn (startWith 31 1000001) (recordOfStep (Step.Tick 3 5) ∷ replicate 16 0 ∷ []) (refused 20 ∷ refused 20 ∷ []) (clock 3 0 ∷ [])
-    ∷ linesOn (startWith 31 1000000) (Step.Tick 3 5 gives 5 ∷ []) (clock 3 5 ∷ [])
-    -- 20: a clock of 2,000,000,001
-    ∷ linesOn (startAt 7 2000000001) (Step.Tick 3 5 refusedBy 20 ∷ []) (clock 3 0 ∷ [])
-    -- 20: kind none in phase 1
-    ∷ linesOn startInPhase (Step.Tick 3 5 refusedBy 20 ∷ []) (clock 3 0 ∷ [])
+    -- a retire, for the status alone
+    ∷ linesOn (nothingLeft Status.Active) (Step.Retire 57 refusedBy 5 ∷ []) (generation 9 3 ∷ [])
+    ∷ linesOn (nothingLeft Status.Committing) (Step.Retire 57 refusedBy 5 ∷ []) (generation 9 3 ∷ [])
+    ∷ linesOn (nothingLeft Status.Aborted) (Step.Retire 57 gives 0 ∷ []) (generation 9 4 ∷ [])
     ∷ []
 
 -- every refusal is as document 01 says

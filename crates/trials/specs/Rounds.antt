@@ -1,4 +1,4 @@
--- The second table of cases, rounds: over five stations and over four, told again, and opened again after the first was closed.
+-- The second table of cases, rounds: over four to seven stations, told again, opened again after the first was closed, and opened late.
 -- The answers were worked out by hand from document 01; a clock beside a line is that of the acting station after it. Assumes nothing.
 use mathlib.Core.Path.{_≡_, refl}
 use mathlib.Core.List.{List, [], _∷_, _++_, map}
@@ -139,6 +139,154 @@ terminatedAgain =
     ∷ Step.Close 8 refusedBy 12
     ∷ []
 
+-- home 4, slot 11: a slot that is used again counts its rounds from 1; 27 is slot 11 in generation 1
+abbrev pub roundsAnew : List Line
+roundsAnew =
+    Step.Begin 4 11 60 70 gives 11  -- clock 4: 1
+    ∷ Step.Prepare 11 gives 1  -- 2
+    ∷ Step.Close 11 gives 1  -- 3
+    ∷ Step.Retire 11 gives 0
+    ∷ Step.Begin 4 11 60 70 gives 27  -- 4
+    ∷ Step.Refresh 27 80 90 gives 1  -- 5
+    ∷ []
+
+-- home 6, slot 3: a call after the round was opened; home is counted as it was then, and the new visit is of the round already
+abbrev pub calledSince : List Line
+calledSince =
+    Step.Begin 6 3 60 70 gives 3  -- clock 6: 1
+    ∷ Step.Refresh 3 80 90 gives 1  -- 2
+    ∷ Step.Invoke 3 6 0 21 0 gives 0  -- 3
+    ∷ Step.Deliver 0 gives 0  -- clock 5: 4
+    ∷ Step.Ask 3 5 gives 0  -- clock 6: 4
+    ∷ Step.Deliver 0 refusedBy 9
+    ∷ Step.Close 3 gives 1  -- 5
+    -- phase 2 asks nobody
+    ∷ Step.Ask 3 2 refusedBy 5
+    ∷ []
+
+-- home 1, slot 12: station 3 has received a call of station 7, which does not answer, so it has one more than was sent
+abbrev pub oneTooMany : List Line
+oneTooMany =
+    Step.Begin 1 12 60 70 gives 12  -- clock 1: 1
+    ∷ Step.Invoke 12 1 0 14 0 gives 0  -- 2
+    ∷ Step.Deliver 0 gives 0  -- clock 3: 3
+    ∷ Step.Refresh 12 80 90 gives 1  -- clock 1: 3
+    ∷ Step.Invoke 12 1 0 30 0 gives 0  -- 4
+    ∷ Step.Deliver 0 gives 0  -- clock 7: 5
+    ∷ Step.Invoke 12 7 0 14 0 gives 0  -- 6
+    ∷ Step.Deliver 0 gives 0  -- clock 3: 7
+    ∷ Step.Ask 12 3 gives 0  -- clock 1: 5
+    ∷ Step.Deliver 0 gives 0  -- clock 3: 8
+    ∷ Step.Deliver 0 gives 0  -- clock 1: 9
+    ∷ Step.Close 12 refusedBy 12
+    ∷ []
+
+-- home 2, slot 7: the Q of both visits, 10, passes at ticks and sweeps, and a refresh still sets it, to 300
+abbrev pub lateRefresh : List Line
+lateRefresh =
+    Step.Begin 2 7 10 200 gives 7  -- clock 2: 1
+    ∷ Step.Invoke 7 2 0 26 0 gives 0  -- 2
+    ∷ Step.Deliver 0 gives 0  -- clock 6: 3
+    ∷ Step.Tick 2 20 gives 22
+    ∷ Step.Tick 6 20 gives 23
+    ∷ Step.Sweep 2 gives 0  -- clock 2: 23
+    ∷ Step.Sweep 6 gives 0  -- clock 6: 24
+    ∷ Step.Refresh 7 300 310 gives 1  -- clock 2: 24
+    ∷ Step.Ask 7 6 gives 0  -- 25
+    ∷ Step.Deliver 0 gives 0  -- clock 6: 26
+    ∷ Step.Deliver 0 gives 0  -- clock 2: 27
+    ∷ Step.Close 7 gives 2  -- 28
+    ∷ Step.Tell 7 6 gives 0  -- 29
+    ∷ Step.Deliver 0 gives 0  -- clock 6: 30
+    ∷ []
+
+-- a refresh with an earlier Q, 50, is told and lowers nothing: a call at 137
+abbrev pub earlierQuiet : List Line
+earlierQuiet =
+    Step.Refresh 7 50 310 gives 2  -- clock 2: 30
+    ∷ Step.Ask 7 6 gives 0  -- 31
+    ∷ Step.Deliver 0 gives 0  -- clock 6: 32
+    ∷ Step.Deliver 0 gives 0  -- clock 2: 33
+    ∷ Step.Close 7 gives 2  -- 34
+    ∷ Step.Tell 7 6 gives 0  -- 35
+    ∷ Step.Deliver 0 gives 0  -- clock 6: 36
+    ∷ Step.Tick 6 100 gives 136
+    ∷ Step.Invoke 7 6 0 27 0 gives 0  -- 137
+    ∷ Step.Deliver 0 gives 0  -- 138
+    ∷ []
+
+-- and a commit after that Q has passed too
+abbrev pub lateCommit : List Line
+lateCommit =
+    Step.Tick 2 400 gives 435
+    ∷ Step.Prepare 7 gives 3  -- clock 2: 436
+    ∷ Step.Ask 7 6 gives 0  -- 437
+    ∷ Step.Deliver 0 gives 0  -- clock 6: 438
+    ∷ Step.Deliver 0 gives 0  -- clock 2: 439
+    ∷ Step.Close 7 gives 2  -- 440
+    ∷ []
+
+-- home 5, slot 1: calls to stations 0 to 4, and a refresh is closed with six answers
+abbrev pub sixRefreshed : List Line
+sixRefreshed =
+    Step.Begin 5 1 1000 1010 gives 1  -- clock 5: 1
+    ∷ Step.Invoke 1 5 0 0 0 gives 0  -- 2
+    ∷ Step.Invoke 1 5 0 5 0 gives 1  -- 3
+    ∷ Step.Invoke 1 5 0 10 0 gives 2  -- 4
+    ∷ Step.Invoke 1 5 0 15 0 gives 3  -- 5
+    ∷ Step.Invoke 1 5 0 18 0 gives 4  -- 6
+    ∷ Step.Deliver 0 gives 0  -- clock 0: 3
+    ∷ Step.Deliver 1 gives 0  -- clock 1: 4
+    ∷ Step.Deliver 2 gives 0  -- clock 2: 5
+    ∷ Step.Deliver 3 gives 0  -- clock 3: 6
+    ∷ Step.Deliver 4 gives 0  -- clock 4: 7
+    ∷ Step.Refresh 1 2000 2010 gives 1  -- clock 5: 7
+    ∷ Step.Ask 1 0 gives 0  -- 8
+    ∷ Step.Ask 1 1 gives 1  -- 9
+    ∷ Step.Ask 1 2 gives 2  -- 10
+    ∷ Step.Ask 1 3 gives 3  -- 11
+    ∷ Step.Ask 1 4 gives 4  -- 12
+    ∷ Step.Deliver 0 gives 0  -- clock 0: 9
+    ∷ Step.Deliver 1 gives 0  -- clock 1: 10
+    ∷ Step.Deliver 2 gives 0  -- clock 2: 11
+    ∷ Step.Deliver 3 gives 0  -- clock 3: 12
+    ∷ Step.Deliver 4 gives 0  -- clock 4: 13
+    ∷ Step.Deliver 0 gives 0  -- clock 5: 13
+    ∷ Step.Deliver 1 gives 0  -- 14
+    ∷ Step.Deliver 2 gives 0  -- 15
+    ∷ Step.Deliver 3 gives 0  -- 16
+    ∷ Step.Deliver 4 gives 0  -- 17
+    ∷ Step.Close 1 gives 6  -- 18
+    ∷ []
+
+-- then station 7 is called too, and the commit is closed with seven
+abbrev pub sevenCommitted : List Line
+sevenCommitted =
+    Step.Invoke 1 5 1 30 3030 gives 0  -- clock 5: 19
+    ∷ Step.Deliver 0 gives 0  -- clock 7: 20
+    ∷ Step.Prepare 1 gives 2  -- clock 5: 20
+    ∷ Step.Ask 1 0 gives 0  -- 21
+    ∷ Step.Ask 1 1 gives 1  -- 22
+    ∷ Step.Ask 1 2 gives 2  -- 23
+    ∷ Step.Ask 1 3 gives 3  -- 24
+    ∷ Step.Ask 1 4 gives 4  -- 25
+    ∷ Step.Ask 1 7 gives 5  -- 26
+    ∷ Step.Deliver 0 gives 0  -- clock 0: 22
+    ∷ Step.Deliver 1 gives 0  -- clock 1: 23
+    ∷ Step.Deliver 2 gives 0  -- clock 2: 24
+    ∷ Step.Deliver 3 gives 0  -- clock 3: 25
+    ∷ Step.Deliver 4 gives 0  -- clock 4: 26
+    ∷ Step.Deliver 5 gives 0  -- clock 7: 27
+    ∷ Step.Deliver 0 gives 0  -- clock 5: 27
+    ∷ Step.Deliver 1 gives 0  -- 28
+    ∷ Step.Deliver 2 gives 0  -- 29
+    ∷ Step.Deliver 3 gives 0  -- 30
+    ∷ Step.Deliver 4 gives 0  -- 31
+    ∷ Step.Close 1 refusedBy 12
+    ∷ Step.Deliver 5 gives 0  -- 32
+    ∷ Step.Close 1 gives 7  -- 33
+    ∷ []
+
 abbrev pub roundRows : List Row
 roundRows =
     -- nine calls to five stations: a refresh and a commit
@@ -182,6 +330,40 @@ terminateRows =
     ∷ [])
     ∷ []
 
+abbrev pub refreshRows : List Row
+refreshRows =
+    -- the first round of a slot that is used again
+    lines roundsAnew
+    (clock 4 5 ∷ status 11 Status.Active ∷ round 11 1 Phase.One ∷ visit 4 11 60 90 1 0 ∷ [])
+    -- a call while a round is open
+    ∷ lines calledSince
+    (clock 6 5 ∷ clock 5 4 ∷ round 3 1 Phase.Two ∷ visit 6 3 80 90 1 0 ∷ visit 5 3 60 90 1 1
+    ∷ sent 6 3 (0 ∷ 0 ∷ 0 ∷ 0 ∷ 0 ∷ 1 ∷ 0 ∷ 0 ∷ [])
+    ∷ mail 0 1
+    ∷ [])
+    -- more calls received than sent
+    ∷ lines oneTooMany
+    (clock 1 9 ∷ clock 3 8 ∷ clock 7 6 ∷ round 12 1 Phase.One ∷ visit 3 12 60 90 1 2 ∷ visit 7 12 60 90 1 1
+    ∷ sent 7 12 (0 ∷ 0 ∷ 0 ∷ 1 ∷ 0 ∷ 0 ∷ 0 ∷ 0 ∷ [])
+    ∷ [])
+    -- two refreshes and a commit, of which none asks for a Q that is still to come
+    ∷ lines (lateRefresh ++ earlierQuiet ++ lateCommit)
+    (clock 2 440 ∷ clock 6 438 ∷ status 7 Status.Committed ∷ round 7 3 Phase.Two ∷ unvisited 2 7 ∷ visit 6 7 300 310 3 2 ∷ prepared 6 7 1 ∷ [])
+    ∷ []
+
+abbrev pub answerRows : List Row
+answerRows =
+    -- a passage over six stations, and then over seven
+    lines (sixRefreshed ++ sevenCommitted)
+    (clock 5 33 ∷ clock 0 22 ∷ clock 4 26 ∷ clock 7 27 ∷ status 1 Status.Committed ∷ round 1 2 Phase.Two ∷ unvisited 5 1
+    ∷ visit 0 1 22 2010 2 1
+    ∷ visit 4 1 26 2010 2 1
+    ∷ visit 7 1 27 2010 2 1
+    ∷ prepared 7 1 1
+    ∷ width 30 3030
+    ∷ [])
+    ∷ []
+
 -- every round is as document 01 says
 pub rounds-hold : map found roundRows ≡ map wanted roundRows
 unfolding found wanted
@@ -191,3 +373,13 @@ rounds-hold = refl
 pub terminates-hold : map found terminateRows ≡ map wanted terminateRows
 unfolding found wanted
 terminates-hold = refl
+
+-- and every refresh
+pub refreshes-hold : map found refreshRows ≡ map wanted refreshRows
+unfolding found wanted
+refreshes-hold = refl
+
+-- and every number of answers
+pub answers-hold : map found answerRows ≡ map wanted answerRows
+unfolding found wanted
+answers-hold = refl

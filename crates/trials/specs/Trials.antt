@@ -3,12 +3,13 @@
 use mathlib.Core.Path.{_≡_}
 use mathlib.Core.List.{List, _++_, map, map-append}
 use Rattle.rules.specs.Rows.{Row, found, wanted}
-use Rattle.trials.specs.Commits.{commitRows, countRows, commits-hold, counts-hold}
-use Rattle.trials.specs.Rounds.{roundRows, terminateRows, rounds-hold, terminates-hold}
-use Rattle.trials.specs.Undone.{undoneRows, sweepRows, undone-hold, sweeps-hold}
-use Rattle.trials.specs.Crashes.{crashRows, crashes-hold}
-use Rattle.trials.specs.Mail.{mailRows, mails-hold}
+use Rattle.trials.specs.Commits.{commitRows, countRows, promiseRows, commits-hold, counts-hold, promises-hold}
+use Rattle.trials.specs.Rounds.{roundRows, terminateRows, refreshRows, answerRows, rounds-hold, terminates-hold, refreshes-hold, answers-hold}
+use Rattle.trials.specs.Undone.{undoneRows, sweepRows, releaseRows, undone-hold, sweeps-hold, releases-hold}
+use Rattle.trials.specs.Crashes.{crashRows, outageRows, crashes-hold, outages-hold}
+use Rattle.trials.specs.Mail.{mailRows, waitingRows, mails-hold, waits-hold}
 use Rattle.trials.specs.Refusals.{refusalRows, refusals-hold}
+use Rattle.trials.specs.Handed.{handedRows, handed-hold}
 use Rattle.trials.specs.Sheets.{sheetRows, sheets-hold}
 
 -- two tables that hold are one that holds
@@ -19,27 +20,38 @@ hold-joined :
     → map found (a ++ b) ≡ map wanted (a ++ b)
 hold-joined a b ha hb = rw (map-append found a b, map-append wanted a b, ha, hb)
 
--- what stands: commits, counts of calls, rounds over several stations
+-- what stands: commits, counts of calls, promises
 abbrev pub standingRows : List Row
-standingRows = commitRows ++ (countRows ++ roundRows)
+standingRows = commitRows ++ (countRows ++ promiseRows)
 
--- what falls: aborts, terminates, sweeps, crashes
+-- rounds over several stations: refreshes, answers, terminates
+abbrev pub openRows : List Row
+openRows = (roundRows ++ terminateRows) ++ (refreshRows ++ answerRows)
+
+-- what falls: aborts, sweeps, crashes
 abbrev pub fallingRows : List Row
-fallingRows = (undoneRows ++ terminateRows) ++ (sweepRows ++ crashRows)
+fallingRows = (undoneRows ++ (sweepRows ++ releaseRows)) ++ (crashRows ++ outageRows)
 
 -- what is said: messages, refusals, listings
 abbrev pub spokenRows : List Row
-spokenRows = mailRows ++ (refusalRows ++ sheetRows)
+spokenRows = (mailRows ++ waitingRows) ++ (refusalRows ++ (handedRows ++ sheetRows))
 
 abbrev pub trialRows : List Row
-trialRows = standingRows ++ (fallingRows ++ spokenRows)
+trialRows = (standingRows ++ openRows) ++ (fallingRows ++ spokenRows)
 
 -- every row is as document 01 says
 pub trials-hold : map found trialRows ≡ map wanted trialRows
 trials-hold =
-    let stands = hold-joined commitRows (countRows ++ roundRows) commits-hold (hold-joined countRows roundRows counts-hold rounds-hold) in
-    let undo = hold-joined undoneRows terminateRows undone-hold terminates-hold in
-    let down = hold-joined sweepRows crashRows sweeps-hold crashes-hold in
-    let falls = hold-joined (undoneRows ++ terminateRows) (sweepRows ++ crashRows) undo down in
-    let says = hold-joined mailRows (refusalRows ++ sheetRows) mails-hold (hold-joined refusalRows sheetRows refusals-hold sheets-hold) in
-    hold-joined standingRows (fallingRows ++ spokenRows) stands (hold-joined fallingRows spokenRows falls says)
+    let stands = hold-joined commitRows (countRows ++ promiseRows) commits-hold (hold-joined countRows promiseRows counts-hold promises-hold) in
+    let ends = hold-joined roundRows terminateRows rounds-hold terminates-hold in
+    let asks = hold-joined refreshRows answerRows refreshes-hold answers-hold in
+    let opens = hold-joined (roundRows ++ terminateRows) (refreshRows ++ answerRows) ends asks in
+    let undo = hold-joined undoneRows (sweepRows ++ releaseRows) undone-hold (hold-joined sweepRows releaseRows sweeps-hold releases-hold) in
+    let down = hold-joined crashRows outageRows crashes-hold outages-hold in
+    let falls = hold-joined (undoneRows ++ (sweepRows ++ releaseRows)) (crashRows ++ outageRows) undo down in
+    let post = hold-joined mailRows waitingRows mails-hold waits-hold in
+    let lists = hold-joined handedRows sheetRows handed-hold sheets-hold in
+    let told = hold-joined refusalRows (handedRows ++ sheetRows) refusals-hold lists in
+    let says = hold-joined (mailRows ++ waitingRows) (refusalRows ++ (handedRows ++ sheetRows)) post told in
+    let held = hold-joined standingRows openRows stands opens in
+    hold-joined (standingRows ++ openRows) (fallingRows ++ spokenRows) held (hold-joined fallingRows spokenRows falls says)

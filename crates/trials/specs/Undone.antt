@@ -1,5 +1,6 @@
 -- The second table of cases, what is undone: aborts and sweeps.
 -- The answers were worked out by hand from document 01; a clock beside a line is that of the acting station after it. Assumes nothing.
+use Prim.Native.Nat.{ℕ, zero, suc}
 use mathlib.Core.Path.{_≡_, refl}
 use mathlib.Core.List.{List, [], _∷_, _++_, map}
 use Rattle.trials.specs.Types.{Holder, Phase, Status, Step}
@@ -172,6 +173,61 @@ threeSwept =
     ∷ Step.Sweep 3 gives 3  -- 54
     ∷ []
 
+-- home 1, slot 15: home is swept while a refresh is in phase 1, and so the round is over
+abbrev pub sweptInRound : List Line
+sweptInRound =
+    Step.Begin 1 15 60 70 gives 15  -- clock 1: 1
+    ∷ Step.Refresh 15 80 90 gives 1  -- 2
+    ∷ Step.Tick 1 100 gives 102
+    ∷ Step.Sweep 1 gives 1  -- 103
+    ∷ Step.Close 15 refusedBy 5
+    ∷ []
+
+-- the first n passages, all at home 2
+abbrev pub beginsUpTo : ℕ → List Line
+beginsUpTo zero = []
+beginsUpTo (suc n) = beginsUpTo n ++ (Step.Begin 2 n 60 70 gives n ∷ [])
+
+-- all sixteen slots are at home 2, the last with a write there, and one sweep takes them all
+abbrev pub sixteenSwept : List Line
+sixteenSwept =
+    beginsUpTo 16  -- clock 2: 1 to 16
+    ++ (Step.Invoke 15 2 1 11 1100 gives 0  -- 17
+    ∷ Step.Deliver 0 gives 0  -- 18
+    ∷ Step.Tick 2 100 gives 118
+    ∷ Step.Sweep 2 gives 16  -- 119
+    ∷ Step.Retire 0 gives 0
+    ∷ Step.Begin 2 0 200 210 gives 16  -- 120
+    ∷ [])
+
+-- home 6, slot 1: it is aborted, and its visit at station 3, which has not heard of it, calls on to station 0
+abbrev pub calledUnaware : List Line
+calledUnaware =
+    Step.Begin 6 1 60 70 gives 1  -- clock 6: 1
+    ∷ Step.Invoke 1 6 0 12 0 gives 0  -- 2
+    ∷ Step.Deliver 0 gives 0  -- clock 3: 3
+    ∷ Step.Abort 1 gives 0  -- clock 6: 3
+    ∷ Step.Invoke 1 3 1 0 450 gives 0  -- clock 3: 4
+    ∷ Step.Deliver 0 gives 0  -- clock 0: 5
+    ∷ []
+
+-- the terminate waits for station 0 too, and then lets it be swept
+abbrev pub unawareSwept : List Line
+unawareSwept =
+    Step.Terminate 1 gives 1  -- clock 6: 4
+    ∷ Step.Ask 1 3 gives 0  -- 5
+    ∷ Step.Deliver 0 gives 0  -- clock 3: 6
+    ∷ Step.Deliver 0 gives 0  -- clock 6: 7
+    ∷ Step.Close 1 refusedBy 12
+    ∷ Step.Ask 1 0 gives 0  -- 8
+    ∷ Step.Deliver 0 gives 0  -- clock 0: 9
+    ∷ Step.Deliver 0 gives 0  -- clock 6: 10
+    ∷ Step.Close 1 gives 3  -- 11; the largest Q is 9, of station 0
+    ∷ Step.Tell 1 0 gives 0  -- 12
+    ∷ Step.Deliver 0 gives 0  -- clock 0: 13
+    ∷ Step.Sweep 0 gives 1  -- 14
+    ∷ []
+
 abbrev pub undoneRows : List Row
 undoneRows =
     -- an abort: two writes over a committed width are undone, and another passage reads that width
@@ -221,6 +277,28 @@ sweepRows =
     (clock 3 54 ∷ status 0 Status.Aborted ∷ status 1 Status.Aborted ∷ status 2 Status.Aborted ∷ unvisited 3 0 ∷ unvisited 3 1 ∷ unvisited 3 2 ∷ [])
     ∷ []
 
+abbrev pub releaseRows : List Row
+releaseRows =
+    -- a sweep at home ends the open round
+    lines sweptInRound
+    (clock 1 103 ∷ status 15 Status.Aborted ∷ round 15 1 Phase.None ∷ unvisited 1 15 ∷ [])
+    -- a sweep of sixteen visits
+    ∷ lines sixteenSwept
+    (clock 2 120 ∷ status 0 Status.Active ∷ generation 0 1 ∷ status 1 Status.Aborted ∷ status 8 Status.Aborted ∷ status 15 Status.Aborted
+    ∷ unvisited 2 1
+    ∷ unvisited 2 15
+    ∷ width 11 0
+    ∷ holder 11 Holder.Nobody
+    ∷ [])
+    -- a call of an aborted passage makes a visit, and its terminate finds it
+    ∷ lines (calledUnaware ++ unawareSwept)
+    (clock 6 12 ∷ clock 3 6 ∷ clock 0 14 ∷ status 1 Status.Aborted ∷ round 1 1 Phase.Two ∷ visit 6 1 3 9 1 0 ∷ visit 3 1 6 70 1 1
+    ∷ unvisited 0 1
+    ∷ width 0 0
+    ∷ holder 0 Holder.Nobody
+    ∷ [])
+    ∷ []
+
 -- every undoing is as document 01 says
 pub undone-hold : map found undoneRows ≡ map wanted undoneRows
 unfolding found wanted
@@ -230,3 +308,8 @@ undone-hold = refl
 pub sweeps-hold : map found sweepRows ≡ map wanted sweepRows
 unfolding found wanted
 sweeps-hold = refl
+
+-- and every release
+pub releases-hold : map found releaseRows ≡ map wanted releaseRows
+unfolding found wanted
+releases-hold = refl
