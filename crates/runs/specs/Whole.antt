@@ -1,5 +1,6 @@
 -- What the machine is for: holds are kept until release, a commit rests on what stands, and a pair of changes stands or falls together.
 pub mod Release
+pub mod Running
 pub mod RestsOn
 pub mod Whole
 pub mod CommitIsWhole

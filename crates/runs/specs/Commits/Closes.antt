@@ -105,7 +105,7 @@ begun-moved (Move.Tells e x i home two silent word uncalled) u y = rw e y
 begun-moved (Move.Begins free status round unmarked i z) u y = absurd (false≢true (ap hasBegun (sym free) ∙ y))
 begun-moved (Move.Retires g status round x i) u y = absurd (true≢false (ap isFree (sym status) ∙ u))
 begun-moved {w = w} (Move.Opens kind from home was e x i z) u y = rw e (begun-opened kind (w .passage .status) from y)
-begun-moved {w = w} (Move.Closes home one closed e x i z) u y = rw e (begun-closed (w .passage .round .kind) _ (w .passage .status) y)
+begun-moved {w = w} (Move.Closes home one closed e x i z fits) u y = rw e (begun-closed (w .passage .round .kind) _ (w .passage .status) y)
 begun-moved (Move.Aborts runs e x i z) u y = rw e
 begun-moved (Move.Receives call body at e x early i z) u y = rw e y
 begun-moved (Move.Replies n asked body e was live below x i silent reply uncalled) u y = rw e y

@@ -99,7 +99,7 @@ module _ (s : Status) (over : isOver s ≡ true) where
   over-moved o x (Move.Begins free status round unmarked i z) u = absurd (true≢false (sym (ap isFree (sym x ∙ free)) ∙ not-free))
   over-moved o x (Move.Retires g status round y i) u = absurd (true≢false (sym (ap isFree status) ∙ u))
   over-moved {w = w} o x (Move.Opens kind from home was e y i z) u = ap (λ (q : Passage). q .status) e ∙ over-opened kind (w .passage .status) from x
-  over-moved {w = w} o x (Move.Closes home one closed e y i z) u =
+  over-moved {w = w} o x (Move.Closes home one closed e y i z fits) u =
       ap (λ (q : Passage). q .status) e
       ∙ ap (toldStatus (roundTold (w .passage .round))) x
       ∙ closing-over (w .passage) (largestQuiesce (w .passage .round)) o x one
@@ -195,7 +195,7 @@ committed-moved n (Move.Begins free status round unmarked i z) x = absurd (true�
 committed-moved n (Move.Retires g status round y i) x = absurd (true≢false (ap isFree (sym status ∙ x)))
 committed-moved {w = w} n (Move.Opens kind from home was e y i z) x =
     absurd (n (asked-committed (askedOf kind) (w .passage .status) (ap (λ (q : Passage). q .status) (sym e) ∙ x)))
-committed-moved {w = w} n (Move.Closes home one closed e y i z) x =
+committed-moved {w = w} n (Move.Closes home one closed e y i z fits) x =
     record {
       kind = told-committed (w .passage .round .kind) (largestQuiesce (w .passage .round)) (w .passage .status) (ap (λ (q : Passage). q .status) (sym e) ∙ x) n;
       asks = one;

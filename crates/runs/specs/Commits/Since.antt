@@ -60,7 +60,7 @@ used-moved (Move.Tells e x i home two silent word uncalled) g u = rw e u
 used-moved (Move.Begins free status round unmarked i y) g u = rw status
 used-moved (Move.Retires y status round x i) g u = absurd (true≢false (sym y ∙ g))
 used-moved {w = w} (Move.Opens kind from home was e x i y) g u = rw e (used-asked (askedOf kind) (w .passage .status) u)
-used-moved {w = w} (Move.Closes home one closed e x i y) g u = rw e (used-told (roundTold (w .passage .round)) (w .passage .status) u)
+used-moved {w = w} (Move.Closes home one closed e x i y fits) g u = rw e (used-told (roundTold (w .passage .round)) (w .passage .status) u)
 used-moved (Move.Aborts runs e x i y) g u = rw e
 used-moved (Move.Receives call body at e x early i y) g u = rw e u
 used-moved (Move.Replies n asked body e was live below x i silent reply uncalled) g u = rw e u

@@ -117,7 +117,7 @@ module _ (w : View) (a k : ℕ) (p : Passage) (v : Visit) (l : Ledger) (h : Hold
   answered-moved (Move.Retires g status round x i) committed = absurd (true≢false (ap isFree (sym status ∙ committed)))
   answered-moved (Move.Opens kind from home was e x i z) committed =
       absurd (opened-not-committed kind (w .passage .status) from (ap (λ (q : Passage). q .status) (sym e) ∙ committed))
-  answered-moved (Move.Closes home one closed e x i z) committed =
+  answered-moved (Move.Closes home one closed e x i z fits) committed =
       ⊎-elim
       (λ q. absurd (one-not-two (sym one ∙ committed-tells (w .passage) (o .round) q .1)))
       (λ kind. rw e (answered-closed home one closed kind x))
@@ -250,7 +250,7 @@ alive-moved {w = w} {a = a} {p = p} {v = v} l h y none (Move.Begins free status 
 alive-moved l h y none (Move.Retires g status round x i) = λ s n t m. absurd (false≢true (sym (none status s) ∙ t))
 alive-moved {w = w} {a = a} {p = p} {v = v} l h y none (Move.Opens kind from home was e x i z) =
     alive-at w a p v y (ap (λ (q : Passage). q .home) e) (λ n. absurd (n home))
-alive-moved {w = w} {a = a} {p = p} {v = v} l h y none (Move.Closes home one closed e x i z) =
+alive-moved {w = w} {a = a} {p = p} {v = v} l h y none (Move.Closes home one closed e x i z fits) =
     alive-at w a p v y (ap (λ (q : Passage). q .home) e) (λ n. absurd (n home))
 alive-moved {w = w} {a = a} {c = c} {p = p} {v = v} l h y none (Move.Aborts runs e x i z) =
     alive-struck w a p v y (ap (λ (q : Passage). q .home) e) true c (w .visit a .dead) x

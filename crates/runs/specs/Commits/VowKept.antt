@@ -335,7 +335,7 @@ module _ (w : View) (l : Ledger) (a k c source : ℕ) (v : Visit) (m : Message) 
       (put-all (w .mail) k m (λ j x. x .body ≡ Body.Empty) (ap (λ (x : Message). x .body) y ∙ h .free free .mail k) (λ j n. h .free free .mail j))
   vow-moved p none (Move.Retires g status round x i) = vow-silent p (rw status tt) round (none status)
   vow-moved p none (Move.Opens kind from home was e x i y) = subst After (sym e) (vow-opened kind from was x y)
-  vow-moved p none (Move.Closes home one closed e x i y) = subst After (sym e) (vow-closed one closed x y)
+  vow-moved p none (Move.Closes home one closed e x i y fits) = subst After (sym e) (vow-closed one closed x y)
   vow-moved p none (Move.Aborts runs e x i y) = subst After (sym e) (vow-aborted y runs)
   vow-moved p none (Move.Receives call body at e x early i y) =
       vow-stays p (as-it-was p e)

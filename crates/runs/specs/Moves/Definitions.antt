@@ -10,6 +10,7 @@ use lib.Dec.{eqb}
 use Rattle.rules.specs.declared.looking.Trip.{Trip}
 use Rattle.rules.specs.Loops.{oneIf}
 use Rattle.rules.specs.Tables.{noVisit, noRound, noMessage}
+use Rattle.rules.specs.Ranges.{phaseFits}
 use Rattle.rules.specs.Parts.{isActive, isRunning, isClosed, abortedPassage, withRound, withAnswer, whereThere, quieted, countSent, countReceived, askedOf, askedVisit, toldVisit, asksLife}
 use Rattle.rules.specs.Rounds.{roundTold, openedPassage, closedPassage}
 use Rattle.rules.specs.Calls.{calledVisit}
@@ -72,7 +73,8 @@ pub data Move (step : Step) (w : View) (a k : ℕ) (p : Passage) (v : Visit) (c 
       a ≡ w .passage .home → w .passage .round .phase ≡ Phase.One → isClosed (w .passage .round) ≡ true
       → p ≡ closedPassage (roundTold (w .passage .round)) (w .passage)
       → v ≡ whereThere (w .visit a) (toldVisit (roundTold (w .passage .round)) (w .visit a))
-      → w .clock a < c → m ≡ w .mail k → Move step w a k p v c m
+      → w .clock a < c → m ≡ w .mail k → phaseFits (w .passage .round .kind) (w .passage .round .phase) ≡ true
+      → Move step w a k p v c m
   Aborts :
       isRunning (w .passage .status) ≡ true → p ≡ abortedPassage (w .passage)
       → v ≡ whereThere (w .visit a) (quieted (w .visit a) c false (w .visit a .dead))

@@ -2,7 +2,7 @@
 -- and that a quiesce time never comes down below the clock. Assumes nothing.
 use Prim.Native.Nat.{ℕ, _<_, _≤_}
 use native.Mathlib.Omega.{arith}
-use mathlib.Core.Path.{_≡_, refl, sym, ap, _∙_}
+use mathlib.Core.Path.{_≡_, refl, sym, ap, _∙_, subst}
 use mathlib.Core.Logic.{_≢_, ⊎-elim}
 use mathlib.Core.Bool.{Bool, true, false, cond, false≢true}
 use Rattle.rules.specs.declared.looking.Trip.{Trip}
@@ -47,6 +47,30 @@ module _ (w : View) (l : Ledger) (a source : ℕ) (v : Visit) where
       (λ n. rw (put-other (w .visit) a v s n, put-other l a (notedPast l (l a) source v) s n) (other s n))
       (same-or-other s a)
 
+  -- what is true of the visit at a site that has been seen, while it is there: P before the store and Q after it.
+  -- The store makes no visit where one has been seen, and leads from P to Q at its own site and at every other
+  pub seen-visit-after :
+      (P Q : Visit → Type 0) (s : ℕ) → l s .seen ≡ true → (w .visit s .there ≡ true → P (w .visit s))
+      → (w .visit a .there ≡ false → v .there ≡ true → l a .seen ≡ true → ⊥)
+      → (w .visit a .there ≡ true → v .there ≡ true → P (w .visit a) → Q v)
+      → ((u : Visit) → P u → Q u)
+      → (ledgerNoted l a source v s .seen ≡ true) × (put (w .visit) a v s .there ≡ true → Q (put (w .visit) a v s))
+  seen-visit-after P Q s seen has unmade here leads =
+      sites-after
+      (λ x u y. x ≡ s → (y .seen ≡ true) × (u .there ≡ true → Q u))
+      (λ there y noted last e. (
+        noted,
+        λ now.
+            ⊎-elim
+            (λ was. here was there (subst (λ (x : ℕ). w .visit x .there ≡ true → P (w .visit x)) (sym e) has was))
+            (λ missing. absurd (unmade missing there (subst (λ (x : ℕ). l x .seen ≡ true) (sym e) seen)))
+            (either (w .visit a .there)),
+      ))
+      (λ gone e. (subst (λ (x : ℕ). l x .seen ≡ true) (sym e) seen, λ there. absurd (false≢true (sym gone ∙ there))))
+      (λ x n e. subst (λ (y : ℕ). (l y .seen ≡ true) × (w .visit y .there ≡ true → Q (w .visit y))) (sym e) (seen, λ there. leads _ (has there)))
+      s
+      refl
+
 -- ---- no visit is made twice
 
 -- "Where a rule changes a visit that isn't there .., that part does nothing"; else it is changed
@@ -69,7 +93,7 @@ made-at-unseen l h (Move.Tells p v i q two n f uncalled) e y = absurd (false≢t
 made-at-unseen {a = a} l h (Move.Begins free s r unmarked i m) e y = h .free free .ledger a
 made-at-unseen l h (Move.Retires g s r v i) e y = absurd (false≢true (sym e ∙ ap (λ (x : Visit). x .there) (sym v) ∙ y))
 made-at-unseen l h (Move.Opens kind from q there p v i m) e y = absurd (false≢true (sym e ∙ there))
-made-at-unseen {w = w} {a = a} l h (Move.Closes q one closed p v i m) e y = absurd (where-gone (w .visit a) _ e (ap (λ (x : Visit). x .there) (sym v) ∙ y))
+made-at-unseen {w = w} {a = a} l h (Move.Closes q one closed p v i m fits) e y = absurd (where-gone (w .visit a) _ e (ap (λ (x : Visit). x .there) (sym v) ∙ y))
 made-at-unseen {w = w} {a = a} l h (Move.Aborts runs p v i m) e y = absurd (where-gone (w .visit a) _ e (ap (λ (x : Visit). x .there) (sym v) ∙ y))
 made-at-unseen {w = w} {a = a} {k = k} {c = c} l h (Move.Receives call body at p v early i m) e y =
     let q : c < call .quiesce = rw e at early in never-twice w l h k a call body at e (omega arith)
@@ -106,7 +130,7 @@ quiesce-after {a = a} l h (Move.Begins free s r unmarked i m) x e y j n = absurd
 quiesce-after l h (Move.Retires g s r v i) x e y j n = rw v j
 quiesce-after {w = w} {a = a} {c = c} l h (Move.Opens kind from q there p v i m) x e y j n =
     rw v (later-asked (askedOf kind) _ c x (w .visit a) j (omega arith))
-quiesce-after {w = w} {a = a} {v = v} l h (Move.Closes q one closed p u i m) x e y j n =
+quiesce-after {w = w} {a = a} {v = v} l h (Move.Closes q one closed p u i m fits) x e y j n =
     let t : v ≡ toldVisit (roundTold (w .passage .round)) (w .visit a) = u ∙ where-is (w .visit a) _ e in
     rw t (later-told (roundTold (w .passage .round)) x (w .visit a) j (ap (λ (z : Visit). z .there) (sym t) ∙ y))
 quiesce-after {w = w} {a = a} l h (Move.Aborts runs p v i m) x e y j n = rw (v, e) (omega arith)
@@ -142,7 +166,7 @@ clock-after-move (Move.Tells e y i home two silent word uncalled) = i
 clock-after-move (Move.Begins free status round unmarked i z) = i
 clock-after-move (Move.Retires g status round y i) = i
 clock-after-move (Move.Opens kind from home was e y i z) = omega arith
-clock-after-move (Move.Closes home one closed e y i z) = omega arith
+clock-after-move (Move.Closes home one closed e y i z fits) = omega arith
 clock-after-move (Move.Aborts runs e y i z) = omega arith
 clock-after-move (Move.Receives call body at e y early i z) = omega arith
 clock-after-move (Move.Replies b asked body e was live below y i silent reply uncalled) = omega arith

@@ -22,12 +22,13 @@ use Rattle.rules.specs.Stations.{tickOf, tickDone, sweepOf, sweepDone, isSwept,
 use Rattle.rules.specs.Passages.{beginOf, beginDone, abortOf, abortDone, retireOf, retireDone}
 use Rattle.rules.specs.Rounds.{openChecks, openOf, openDone, refreshOf, terminateOf, prepareOf, askOf, askDone, closeOf, closeDone, tellChecks, tellOf, tellDone, tellBody}
 use Rattle.rules.specs.Calls.{callSite, callOf, invokeChecks, mailClock, calledVisit, callChecks, callDone, roundChecks, atHome, phaseOneDone, phaseTwoDone, answerChecks, answerDone, invokeOf, invokeDone, emptyOf, deliverCallOf, deliverPhaseOneOf, deliverPhaseTwoOf, deliverAnswerOf, deliverBodyOf, dropOf, dropDone}
-use Rattle.rules.specs.Machine.{looksHome, placesOf, seenOf, decideOf, foundOf, slotPlaces, tripPlaces, turnSeen, isMessageOf}
+use Rattle.rules.specs.Machine.{looksHome, lookOf, placesOf, seenOf, decideOf, foundOf, slotPlaces, tripPlaces, turnSeen, isMessageOf}
 use Rattle.runs.specs.Types.{Kind, Status, Call, Asked, Told, Body, Message, Tables, Step, Places, Seen, Decision}
 use Rattle.runs.specs.Walk.Says.{isPrepare, tellsPrepare, carriesCommit}
 use Rattle.runs.specs.Walk.Steps.{placesAt, seenAt}
 use Rattle.runs.specs.Times.View.{Ledger, mailOf, viewOf}
 use Rattle.runs.specs.Times.Clauses.{callTo, Holds}
+use Rattle.runs.specs.Fits.Shared.{phase-in-range}
 use Rattle.runs.specs.Fits.Life.{free-says}
 use Rattle.runs.specs.Fits.Close.{one-says}
 use Rattle.runs.specs.Fits.Mail.{two-says}
@@ -341,7 +342,8 @@ module _ (t : Tables) (range : inRange t ≡ true) (l : Ledger) where
       refl
       refl
       (omega arith)
-      refl)
+      refl
+      (phase-in-range t (lookOf (Step.Close h)) range))
   move-of (Step.Tell h site) k e =
       step-settled t (Step.Tell h site) (tellDone h site _) e
       (tell-move t l h site (placesAt t (Step.Tell h site) .message) k (accepted-fine _ _ e))

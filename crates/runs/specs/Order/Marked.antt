@@ -267,7 +267,7 @@ module _ (x s : ℕ) where
     heard-moved p (Move.Begins free status round unmarked j z) u = absurd (false≢true (sym (h .free free .ledger s) ∙ o .seen))
     heard-moved p (Move.Retires g status round y j) u = absurd (true≢false (sym (ap isFree status) ∙ u))
     heard-moved p (Move.Opens kind from home was e y j z) u = subst (λ (q : Passage). Heard (Left q)) (sym e) (heard-opened kind from home z)
-    heard-moved p (Move.Closes home one closed e y j z) u =
+    heard-moved p (Move.Closes home one closed e y j z fits) u =
         subst (λ (q : Passage). Heard (Left q)) (sym e)
         (heard-alike (closedPassage (roundTold (w .passage .round)) (w .passage)) refl refl refl
         (λ kind yes. risen w a c (w .passage .home) i (o .answered kind yes))

@@ -208,7 +208,7 @@ module _ (d : ℕ) where
       short-even d w l h a k source v m p c
       (λ n. let y = asked-even (askedOf kind) _ c (w .visit a) in (there, ap (λ (u : Visit). u .received) x ∙ y .0, ap (λ (u : Visit). u .sent) x ∙ y .1))
       (kept-call (w .mail k) m z)
-  short-moved {w = w} {a} {k} {c} {p} {v} {m} l source h was now (Move.Closes home one closed e x i z) =
+  short-moved {w = w} {a} {k} {c} {p} {v} {m} l source h was now (Move.Closes home one closed e x i z fits) =
       short-even d w l h a k source v m p c
       (where-even (w .visit a) (toldVisit (roundTold (w .passage .round)) (w .visit a)) v x (told-even (roundTold (w .passage .round)) (w .visit a)))
       (kept-call (w .mail k) m z)

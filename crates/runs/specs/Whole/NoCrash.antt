@@ -7,7 +7,7 @@ use mathlib.Core.Logic.{_≢_, ⊎-elim, _⊎_, inl, inr}
 use mathlib.Core.Bool.{true, false, true≢false, false≢true}
 use mathlib.Core.List.{List, _∷_, _++_}
 use Rattle.rules.specs.declared.looking.Trip.{Trip}
-use Rattle.rules.specs.LoopsLaws.{either, cond-keeps}
+use Rattle.rules.specs.LoopsLaws.{cond-keeps}
 use Rattle.rules.specs.Tables.{passageAt, visitAt}
 use Rattle.rules.specs.Answers.{isAccepted}
 use Rattle.rules.specs.Parts.{isFree, isOver, abortedPassage, askedVisit, askedOf, quieted}
@@ -17,14 +17,14 @@ use Rattle.rules.specs.Runs.{Started, runOf, historyOf}
 use Rattle.runs.specs.Types.{Status, Passage, Visit, Asked, Message, Tables, Step}
 use Rattle.runs.specs.Walk.Says.{isPrepare}
 use Rattle.runs.specs.Walk.Plain.{when-true}
-use Rattle.runs.specs.Walk.Put.{put, same-or-other}
+use Rattle.runs.specs.Walk.Put.{same-or-other}
 use Rattle.runs.specs.Walk.Steps.{run-on, ghostStep}
-use Rattle.runs.specs.Times.View.{View, Ledger, ledgerNoted}
+use Rattle.runs.specs.Times.View.{View, Ledger}
 use Rattle.runs.specs.Times.Clauses.{Holds}
 use Rattle.runs.specs.Times.Ledgers.{headLedgers, turnLedgers, ledgersOf}
 use Rattle.runs.specs.Orphans.Orphans.{isRetired}
 use Rattle.runs.specs.Moves.Definitions.{Move, Turn}
-use Rattle.runs.specs.Moves.Laws.{sites-after, where-is, made-at-unseen, turned-unmade}
+use Rattle.runs.specs.Moves.Laws.{seen-visit-after, where-is, made-at-unseen, turned-unmade}
 use Rattle.runs.specs.Operations.Struck.{Runs, Struck, crash-strikes}
 use Rattle.runs.specs.Commits.Vow.{RoundFor, RoundFits}
 use Rattle.runs.specs.Commits.VowLaws.{none-not-one}
@@ -52,7 +52,7 @@ dead-moved {a = a} l h (Move.Begins free status round unmarked i z) was there de
 dead-moved l h (Move.Retires g status round x i) was there dead = ap (λ (u : Visit). u .dead) x ∙ dead
 dead-moved {w = w} {a = a} {c = c} l h (Move.Opens kind from home was e x i z) there now dead =
     ap (λ (u : Visit). u .dead) x ∙ asked-dead (askedOf kind) _ c (w .visit a) ∙ dead
-dead-moved {w = w} {a = a} {v = v} l h (Move.Closes home one closed e x i z) was there dead =
+dead-moved {w = w} {a = a} {v = v} l h (Move.Closes home one closed e x i z fits) was there dead =
     let told = x ∙ where-is (w .visit a) _ was in
     ap (λ (u : Visit). u .dead) told ∙ marks-told (roundTold (w .passage .round)) (w .visit a) (ap (λ (u : Visit). u .there) (sym told) ∙ there) .1 ∙ dead
 dead-moved {w = w} {a = a} l h (Move.Aborts runs e x i z) was there dead = ap (λ (u : Visit). u .dead) (x ∙ where-is (w .visit a) _ was) ∙ dead
@@ -84,7 +84,7 @@ home-moved (Move.Tells e x i home two silent word uncalled) was now = ap (λ (q 
 home-moved (Move.Begins free status round unmarked i z) was now = absurd (true≢false (sym (ap isFree free) ∙ was))
 home-moved (Move.Retires g status round x i) was now = absurd (true≢false (sym (ap isFree status) ∙ now))
 home-moved (Move.Opens kind from home there e x i z) was now = ap (λ (q : Passage). q .home) e
-home-moved (Move.Closes home one closed e x i z) was now = ap (λ (q : Passage). q .home) e
+home-moved (Move.Closes home one closed e x i z fits) was now = ap (λ (q : Passage). q .home) e
 home-moved (Move.Aborts runs e x i z) was now = ap (λ (q : Passage). q .home) e
 home-moved (Move.Receives call body at e x early i z) was now = ap (λ (q : Passage). q .home) e
 home-moved (Move.Replies n asked body e there live below x i silent reply uncalled) was now = ap (λ (q : Passage). q .home) e
@@ -121,40 +121,24 @@ record StruckAt (s : ℕ) (w : View) (l : Ledger) : Type 0 where
   dead : w .visit s .there ≡ true → w .visit s .dead ≡ true
 
 module _ (s : ℕ) where
-  struck-after :
-      (w : View) (l : Ledger) (a source : ℕ) (v : Visit) → StruckAt s w l
-      → (w .visit a .there ≡ false → v .there ≡ true → l a .seen ≡ true → ⊥)
-      → (w .visit a .there ≡ true → v .there ≡ true → w .visit a .dead ≡ true → v .dead ≡ true)
-      → (x : ℕ) → x ≡ s → (ledgerNoted l a source v x .seen ≡ true) × (put (w .visit) a v x .there ≡ true → put (w .visit) a v x .dead ≡ true)
-  struck-after w l a source v g unmade stays =
-      sites-after w l a source v
-      (λ x u y. x ≡ s → (y .seen ≡ true) × (u .there ≡ true → u .dead ≡ true))
-      (λ there y seen last e. (
-        seen,
-        λ now.
-            ⊎-elim
-            (λ was. stays was there (subst (λ (x : ℕ). w .visit x .there ≡ true → w .visit x .dead ≡ true) (sym e) (g .dead) was))
-            (λ missing. absurd (unmade missing there (subst (λ (x : ℕ). l x .seen ≡ true) (sym e) (g .seen))))
-            (either (w .visit a .there)),
-      ))
-      (λ gone e. (subst (λ (x : ℕ). l x .seen ≡ true) (sym e) (g .seen), λ there. absurd (false≢true (sym gone ∙ there))))
-      (λ x n e. subst (λ (y : ℕ). (l y .seen ≡ true) × (w .visit y .there ≡ true → w .visit y .dead ≡ true)) (sym e) (g .seen, g .dead))
-
   struck-carries : Carries (StruckAt s) NoWay
   struck-carries =
       record {
         moved =
             λ {step} {w} {a} {k} {c} {p} {v} {m} l source h o g move u.
             let x =
-            struck-after w l a source v g
+            seen-visit-after w l a source v (λ u. u .dead ≡ true) (λ u. u .dead ≡ true) s (g .seen) (g .dead)
             (λ missing there seen. true≢false (sym seen ∙ made-at-unseen l h move missing there))
             (dead-moved l h move)
-            s
-            refl in
+            (λ u dead. dead) in
             record { seen = x .0; dead = x .1 };
         turned =
             λ {w} {a} {p} {v} trip l source k at h o g way turn.
-            let x = struck-after w l a source v g (λ missing there seen. turned-unmade turn missing there) (dead-turned turn) s refl in
+            let x =
+            seen-visit-after w l a source v (λ u. u .dead ≡ true) (λ u. u .dead ≡ true) s (g .seen) (g .dead)
+            (λ missing there seen. turned-unmade turn missing there)
+            (dead-turned turn)
+            (λ u dead. dead) in
             record { seen = x .0; dead = x .1 };
         used = λ h g. seen-used s h (g .seen);
         sets-out = λ t step p l z a g. tt;
