@@ -1,12 +1,12 @@
 -- What each step may change of the records that it saw, one row to a step: a law over steps then has a row for each step that matters to it, and one for all others. Assumes nothing.
 use Prim.Native.Nat.{ℕ, _+_}
-use mathlib.Core.Path.{_≡_, refl}
+use mathlib.Core.Path.{_≡_, refl, sym, _∙_}
 use mathlib.Core.Logic.{⊎-elim}
 use mathlib.Core.Bool.{Bool, true, false, cond, not, _||_, true≢false, false≢true}
 use mathlib.Core.List.{List}
 use lib.Dec.{eqb}
-use Rattle.rules.specs.Types.{Passage, Call, Asked, Told, Body, Step, Check, SlotAt, Trip, Seen, Found}
-use Rattle.rules.specs.Tables.{generationOf}
+use Rattle.rules.specs.Types.{Passage, Call, Asked, Told, Body, Message, Step, Check, SlotAt, Trip, Seen, Found}
+use Rattle.rules.specs.Tables.{noMessage, generationOf}
 use Rattle.rules.specs.Parts.{isFree, isEmpty}
 use Rattle.rules.specs.Answers.{isAccepted, firstOf, settleOf}
 use Rattle.rules.specs.LoopsLaws.{either, cond-keeps, not-false}
@@ -111,12 +111,29 @@ pub data Post : Step → Type 0 where
       → Post step
   Stays : (step : Step) → Leaves (λ s. s .message) step → Post step
 
+-- of calls: an invoke sends one, and no other step leaves a call in the message slot that it looks at where that call did not stand
+abbrev pub isCalled : Body → Bool
+isCalled Body.Empty = false
+isCalled (Body.Call c) = true
+isCalled (Body.PhaseOne n asked) = false
+isCalled (Body.PhaseTwo n told) = false
+isCalled (Body.Answer n received q) = false
+
+-- a call in what a decision leaves stood in what was seen
+abbrev pub CallStood : Seen → Seen → Type 0
+CallStood seen left = isCalled (left .message .body) ≡ true → left .message ≡ seen .message
+
+pub data Calling : Step → Type 0 where
+  Invokes : (h site write object value : ℕ) → Calling (Step.Invoke h site write object value)
+  Stands : (step : Step) → ((found : Found) (seen : Seen) → CallStood seen (decideOf step found seen .left)) → Calling step
+
 pub record Deed (step : Step) : Type 0 where
   pub objects : Objects step
   pub generation : Generation step
   pub marks : Marks step
   pub clock : Clock step
   pub post : Post step
+  pub calling : Calling step
   pub goes : Goes step
   pub handle : Handle step
 
@@ -162,6 +179,25 @@ delivered-generation (Body.PhaseTwo n d) m seen =
     same (λ s. s .passage .generation) _ _ seen _ (home-generation (atHome seen) _ (seen .passage) _ refl refl)
 delivered-generation (Body.Answer n r q) m seen = same (λ s. s .passage .generation) _ _ seen _ refl
 
+-- what a decision leaves where it leaves the message
+stood : (cs : List Check) (v : ℕ) (seen left : Seen) → left .message ≡ seen .message → CallStood seen (settleOf (record { answer = firstOf cs v; left = left }) seen .left)
+stood cs v seen left e = settled (CallStood seen) cs v seen left (λ f c. e) (λ c. refl)
+
+-- and where it leaves no call
+uncalled :
+    (cs : List Check) (v : ℕ) (seen left : Seen) → isCalled (left .message .body) ≡ false
+    → CallStood seen (settleOf (record { answer = firstOf cs v; left = left }) seen .left)
+uncalled cs v seen left e = settled (CallStood seen) cs v seen left (λ f c. absurd (true≢false (sym c ∙ e))) (λ c. refl)
+
+delivered-stood : (body : Body) (m : ℕ) (seen : Seen) → CallStood seen (deliverBodyOf body m seen .left)
+unfolding deliverBodyOf emptyOf deliverCallOf deliverPhaseOneOf deliverPhaseTwoOf deliverAnswerOf
+delivered-stood Body.Empty m seen = stood _ _ seen _ refl
+delivered-stood (Body.Call c) m seen = uncalled _ _ seen _ refl
+delivered-stood (Body.PhaseOne n a) m seen =
+    uncalled _ _ seen _ (cond-keeps (λ (x : Message). isCalled (x .body) ≡ false) (atHome seen) noMessage _ refl refl)
+delivered-stood (Body.PhaseTwo n d) m seen = uncalled _ _ seen _ refl
+delivered-stood (Body.Answer n r q) m seen = uncalled _ _ seen _ refl
+
 pub deedOf : (step : Step) → Deed step
 unfolding decideOf tickOf sweepOf crashOf recoverOf beginOf abortOf retireOf refreshOf terminateOf prepareOf openOf askOf closeOf tellOf invokeOf dropOf
 deedOf (Step.Tick site n) =
@@ -171,6 +207,7 @@ deedOf (Step.Tick site n) =
       marks = Marks.Stay _ (λ found seen. same (λ s. s .visit .there) _ _ seen _ refl) (λ found seen. same (λ s. s .visit .prepared) _ _ seen _ refl);
       clock = Clock.Ticks site n;
       post = Post.Stays _ (λ found seen. same (λ s. s .message) _ _ seen _ refl);
+      calling = Calling.Stands _ (λ found seen. stood _ _ seen _ refl);
       goes = Goes.Nowhere _ refl;
       handle = Handle.Nameless _ refl;
     }
@@ -181,6 +218,7 @@ deedOf (Step.Begin home slot q r) =
       marks = Marks.Begins home slot q r;
       clock = Clock.Moves _ refl (λ found seen e. settled-accepted (λ s. s .site .clock ≡ seen .site .clock + 1) _ _ seen _ (λ f. refl) e);
       post = Post.Stays _ (λ found seen. same (λ s. s .message) _ _ seen _ refl);
+      calling = Calling.Stands _ (λ found seen. stood _ _ seen _ refl);
       goes = Goes.Nowhere _ refl;
       handle = Handle.Nameless _ refl;
     }
@@ -191,6 +229,7 @@ deedOf (Step.Invoke h site write object value) =
       marks = Marks.Stay _ (λ found seen. same (λ s. s .visit .there) _ _ seen _ refl) (λ found seen. same (λ s. s .visit .prepared) _ _ seen _ refl);
       clock = Clock.Moves _ refl (λ found seen e. settled-accepted (λ s. s .site .clock ≡ seen .site .clock + 1) _ _ seen _ (λ f. refl) e);
       post = Post.Sends _ (λ found seen e. invoke-empty h site write object value seen (accepted-fine _ _ e));
+      calling = Calling.Invokes h site write object value;
       goes = Goes.Nowhere _ refl;
       handle = Handle.Named _ refl (λ found seen e. accepted-fine _ _ e .found);
     }
@@ -201,6 +240,7 @@ deedOf (Step.Refresh h q r) =
       marks = Marks.Stay _ (λ found seen. same (λ s. s .visit .there) _ _ seen _ refl) (λ found seen. same (λ s. s .visit .prepared) _ _ seen _ refl);
       clock = Clock.Moves _ refl (λ found seen e. settled-accepted (λ s. s .site .clock ≡ seen .site .clock + 1) _ _ seen _ (λ f. refl) e);
       post = Post.Stays _ (λ found seen. same (λ s. s .message) _ _ seen _ refl);
+      calling = Calling.Stands _ (λ found seen. stood _ _ seen _ refl);
       goes = Goes.Nowhere _ refl;
       handle = Handle.Named _ refl (λ found seen e. accepted-fine _ _ e .found);
     }
@@ -211,6 +251,7 @@ deedOf (Step.Terminate h) =
       marks = Marks.Terminates h;
       clock = Clock.Moves _ refl (λ found seen e. settled-accepted (λ s. s .site .clock ≡ seen .site .clock + 1) _ _ seen _ (λ f. refl) e);
       post = Post.Stays _ (λ found seen. same (λ s. s .message) _ _ seen _ refl);
+      calling = Calling.Stands _ (λ found seen. stood _ _ seen _ refl);
       goes = Goes.Nowhere _ refl;
       handle = Handle.Named _ refl (λ found seen e. accepted-fine _ _ e .found);
     }
@@ -221,6 +262,7 @@ deedOf (Step.Prepare h) =
       marks = Marks.Prepares h;
       clock = Clock.Moves _ refl (λ found seen e. settled-accepted (λ s. s .site .clock ≡ seen .site .clock + 1) _ _ seen _ (λ f. refl) e);
       post = Post.Stays _ (λ found seen. same (λ s. s .message) _ _ seen _ refl);
+      calling = Calling.Stands _ (λ found seen. stood _ _ seen _ refl);
       goes = Goes.Nowhere _ refl;
       handle = Handle.Named _ refl (λ found seen e. accepted-fine _ _ e .found);
     }
@@ -231,6 +273,7 @@ deedOf (Step.Ask h site) =
       marks = Marks.Stay _ (λ found seen. same (λ s. s .visit .there) _ _ seen _ refl) (λ found seen. same (λ s. s .visit .prepared) _ _ seen _ refl);
       clock = Clock.Moves _ refl (λ found seen e. settled-accepted (λ s. s .site .clock ≡ seen .site .clock + 1) _ _ seen _ (λ f. refl) e);
       post = Post.Sends _ (λ found seen e. not-false _ (accepted-fine _ _ e .room));
+      calling = Calling.Stands _ (λ found seen. uncalled _ _ seen _ refl);
       goes = Goes.Nowhere _ refl;
       handle = Handle.Named _ refl (λ found seen e. accepted-fine _ _ e .found);
     }
@@ -241,6 +284,7 @@ deedOf (Step.Close h) =
       marks = Marks.Closes h;
       clock = Clock.Moves _ refl (λ found seen e. settled-accepted (λ s. s .site .clock ≡ seen .site .clock + 1) _ _ seen _ (λ f. refl) e);
       post = Post.Stays _ (λ found seen. same (λ s. s .message) _ _ seen _ refl);
+      calling = Calling.Stands _ (λ found seen. stood _ _ seen _ refl);
       goes = Goes.Nowhere _ refl;
       handle = Handle.Named _ refl (λ found seen e. accepted-fine _ _ e .found);
     }
@@ -251,6 +295,7 @@ deedOf (Step.Tell h site) =
       marks = Marks.Stay _ (λ found seen. same (λ s. s .visit .there) _ _ seen _ refl) (λ found seen. same (λ s. s .visit .prepared) _ _ seen _ refl);
       clock = Clock.Moves _ refl (λ found seen e. settled-accepted (λ s. s .site .clock ≡ seen .site .clock + 1) _ _ seen _ (λ f. refl) e);
       post = Post.Sends _ (λ found seen e. not-false _ (accepted-fine _ _ e .room));
+      calling = Calling.Stands _ (λ found seen. uncalled _ _ seen _ refl);
       goes = Goes.Nowhere _ refl;
       handle = Handle.Named _ refl (λ found seen e. accepted-fine _ _ e .found);
     }
@@ -261,6 +306,7 @@ deedOf (Step.Abort h) =
       marks = Marks.Aborts h;
       clock = Clock.Moves _ refl (λ found seen e. settled-accepted (λ s. s .site .clock ≡ seen .site .clock + 1) _ _ seen _ (λ f. refl) e);
       post = Post.Stays _ (λ found seen. same (λ s. s .message) _ _ seen _ refl);
+      calling = Calling.Stands _ (λ found seen. stood _ _ seen _ refl);
       goes = Goes.Nowhere _ refl;
       handle = Handle.Named _ refl (λ found seen e. accepted-fine _ _ e .found);
     }
@@ -271,6 +317,7 @@ deedOf (Step.Deliver m) =
       marks = Marks.Delivers m;
       clock = Clock.Delivers m (λ found seen e. delivered-clock (seen .message .body) m seen refl e);
       post = Post.Delivers m;
+      calling = Calling.Stands _ (λ found seen. delivered-stood (seen .message .body) m seen);
       goes = Goes.Nowhere _ refl;
       handle = Handle.Nameless _ refl;
     }
@@ -281,6 +328,7 @@ deedOf (Step.Drop m) =
       marks = Marks.Stay _ (λ found seen. same (λ s. s .visit .there) _ _ seen _ refl) (λ found seen. same (λ s. s .visit .prepared) _ _ seen _ refl);
       clock = Clock.Rests _ refl (λ found seen. same (λ s. s .site) _ _ seen _ refl);
       post = Post.Drops m;
+      calling = Calling.Stands _ (λ found seen. uncalled _ _ seen _ refl);
       goes = Goes.Nowhere _ refl;
       handle = Handle.Nameless _ refl;
     }
@@ -291,6 +339,7 @@ deedOf (Step.Sweep site) =
       marks = Marks.Stay _ (λ found seen. same (λ s. s .visit .there) _ _ seen _ refl) (λ found seen. same (λ s. s .visit .prepared) _ _ seen _ refl);
       clock = Clock.Moves _ refl (λ found seen e. settled-accepted (λ s. s .site .clock ≡ seen .site .clock + 1) _ _ seen _ (λ f. refl) e);
       post = Post.Stays _ (λ found seen. same (λ s. s .message) _ _ seen _ refl);
+      calling = Calling.Stands _ (λ found seen. stood _ _ seen _ refl);
       goes = Goes.Sweeps site;
       handle = Handle.Nameless _ refl;
     }
@@ -301,6 +350,7 @@ deedOf (Step.Crash site) =
       marks = Marks.Stay _ (λ found seen. same (λ s. s .visit .there) _ _ seen _ refl) (λ found seen. same (λ s. s .visit .prepared) _ _ seen _ refl);
       clock = Clock.Moves _ refl (λ found seen e. settled-accepted (λ s. s .site .clock ≡ seen .site .clock + 1) _ _ seen _ (λ f. refl) e);
       post = Post.Stays _ (λ found seen. same (λ s. s .message) _ _ seen _ refl);
+      calling = Calling.Stands _ (λ found seen. stood _ _ seen _ refl);
       goes = Goes.Crashes site;
       handle = Handle.Nameless _ refl;
     }
@@ -311,6 +361,7 @@ deedOf (Step.Recover site) =
       marks = Marks.Stay _ (λ found seen. same (λ s. s .visit .there) _ _ seen _ refl) (λ found seen. same (λ s. s .visit .prepared) _ _ seen _ refl);
       clock = Clock.Moves _ refl (λ found seen e. settled-accepted (λ s. s .site .clock ≡ seen .site .clock + 1) _ _ seen _ (λ f. refl) e);
       post = Post.Stays _ (λ found seen. same (λ s. s .message) _ _ seen _ refl);
+      calling = Calling.Stands _ (λ found seen. stood _ _ seen _ refl);
       goes = Goes.Nowhere _ refl;
       handle = Handle.Nameless _ refl;
     }
@@ -321,6 +372,7 @@ deedOf (Step.Retire h) =
       marks = Marks.Stay _ (λ found seen. same (λ s. s .visit .there) _ _ seen _ refl) (λ found seen. same (λ s. s .visit .prepared) _ _ seen _ refl);
       clock = Clock.Rests _ refl (λ found seen. same (λ s. s .site) _ _ seen _ refl);
       post = Post.Stays _ (λ found seen. same (λ s. s .message) _ _ seen _ refl);
+      calling = Calling.Stands _ (λ found seen. stood _ _ seen _ refl);
       goes = Goes.Nowhere _ refl;
       handle = Handle.Named _ refl (λ found seen e. accepted-fine _ _ e .found);
     }

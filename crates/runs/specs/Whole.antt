@@ -7,3 +7,4 @@ pub mod CommitIsWhole
 pub mod NoCrash
 pub mod Lost
 pub mod Done
+pub mod Sent

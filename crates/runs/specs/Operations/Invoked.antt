@@ -45,9 +45,9 @@ module _ (t : Tables) (h site b k u : ℕ) (z : Sound t) (a : isAccepted (stepOf
   fine = accepted-fine (invokeChecks h site b k u Saw) (At .message) checked
 
   -- the answer names the message slot
-  answered : answerValue (stepOf t Done .answer) ≡ At .message
+  pub invoked-answers : answerValue (stepOf t (Step.Invoke h site b k u) .answer) ≡ placesAt t (Step.Invoke h site b k u) .message
   unfolding decideOf invokeOf
-  answered =
+  invoked-answers =
       ap answerValue (single-answer t Done refl a ∙ accepted-value (invokeChecks h site b k u Saw) (At .message) checked)
 
   left-there : stepOf t Done .tables ≡ stored t At Left
@@ -107,7 +107,7 @@ module _ (t : Tables) (h site b k u : ℕ) (z : Sound t) (a : isAccepted (stepOf
   -- an accepted invoke leaves a call, in the message slot that it answers, which was empty:
   -- the object, the operation and the value as the step names them, from its site to the object's
   pub invoked-says : SaysCall t (stepOf t (Step.Invoke h site b k u) .tables) h site b k u (answerValue (stepOf t (Step.Invoke h site b k u) .answer))
-  invoked-says = rw answered (rw here at says)
+  invoked-says = rw invoked-answers (rw here at says)
 
   still-open : StillOpen (stepOf t Done .tables) (At .site) (At .slot)
   still-open =

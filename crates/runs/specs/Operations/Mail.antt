@@ -22,7 +22,7 @@ use Rattle.rules.specs.StoredLaws.{turn-stored, message-after-stored, message-a
 use Rattle.rules.specs.RefusedLaws.{refused-leaves}
 use Rattle.rules.specs.SettledLaws.{delivered-named}
 use Rattle.rules.specs.Runs.{runOf}
-use Rattle.rules.specs.Views.{Post, deedOf}
+use Rattle.rules.specs.Views.{Post, isCalled, Calling, deedOf}
 use Rattle.runs.specs.Types.{Message, Tables, Step, Outcome, Seen}
 use Rattle.runs.specs.Walk.Put.{same-or-other}
 use Rattle.runs.specs.Walk.Steps.{placesAt, seenAt}
@@ -30,9 +30,24 @@ use Rattle.runs.specs.Walk.Sound.{Sound, sound-step, sound-step-has}
 use Rattle.runs.specs.Walk.Clocks.{turned-message}
 use Rattle.runs.specs.Operations.Definitions.{mailNamed, operates, isWrite, toWrite}
 use Rattle.runs.specs.Operations.Single.{decisionAt}
-use Rattle.runs.specs.Operations.Invoked.{invoked-says}
+use Rattle.runs.specs.Operations.Invoked.{invoked-answers, invoked-says}
 
 -- ---- one step
+
+-- a turn of a sweep or a crash leaves every message
+turn-mail : (m : ℕ) (trip : Trip) (n : ℕ) (o : Outcome) → n < 16 → Sound (o .tables) → messageAt (turnOf trip n o .tables) m ≡ messageAt (o .tables) m
+turn-mail m trip n o l y =
+    let left : Seen = turnSeen trip n (seenOf (o .tables) (tripPlaces trip n)) in
+    rw
+    (turn-stored trip n o)
+    (⊎-elim
+    (λ (at : m ≡ tripPlaces trip n .message).
+    ap (messageAt (stored (o .tables) (tripPlaces trip n) left)) at
+    ∙ message-after-stored (o .tables) (tripPlaces trip n) left (y .sized) (placed-trip trip n l)
+    ∙ turned-message trip n (seenOf (o .tables) (tripPlaces trip n))
+    ∙ ap (messageAt (o .tables)) (sym at))
+    (λ other. message-after-stored-other (o .tables) (tripPlaces trip n) left m other)
+    (same-or-other m (tripPlaces trip n .message)))
 
 -- a step that is for another message slot than m, or for none
 abbrev ForOther : (m : ℕ) {step : Step} → Post step → Type 0
@@ -69,25 +84,10 @@ module _ (t : Tables) (step : Step) (m : ℕ) (z : Sound t) (full : isEmpty (mes
       (λ apart. message-after-stored-other t (placesAt t step) _ m apart)
       (same-or-other m (placesAt t step .message))
 
-  -- a turn of a sweep or a crash leaves every message
-  turn-mail : (trip : Trip) (n : ℕ) (o : Outcome) → n < 16 → Sound (o .tables) → messageAt (turnOf trip n o .tables) m ≡ messageAt (o .tables) m
-  turn-mail trip n o l y =
-      let left : Seen = turnSeen trip n (seenOf (o .tables) (tripPlaces trip n)) in
-      rw
-      (turn-stored trip n o)
-      (⊎-elim
-      (λ (at : m ≡ tripPlaces trip n .message).
-      ap (messageAt (stored (o .tables) (tripPlaces trip n) left)) at
-      ∙ message-after-stored (o .tables) (tripPlaces trip n) left (y .sized) (placed-trip trip n l)
-      ∙ turned-message trip n (seenOf (o .tables) (tripPlaces trip n))
-      ∙ ap (messageAt (o .tables)) (sym at))
-      (λ other. message-after-stored-other (o .tables) (tripPlaces trip n) left m other)
-      (same-or-other m (tripPlaces trip n .message)))
-
   mail-left : ForOther m (deedOf step .post) → messageAt (stepOf t step .tables) m ≡ messageAt t m
   mail-left other =
       sound-step-has t step z (λ n u. messageAt u m ≡ messageAt t m)
-      (λ n o l y k. turn-mail (lookOf step .trip) n o l y ∙ k)
+      (λ n o l y k. turn-mail m (lookOf step .trip) n o l y ∙ k)
       (head-mail other)
       (λ u. messageAt u m ≡ messageAt t m)
       refl
@@ -113,6 +113,73 @@ module _ (t : Tables) (step : Step) (m : ℕ) (z : Sound t) (full : isEmpty (mes
       (λ a. inl (ap (λ (u : Tables). messageAt u m) (refused-leaves t step a)))
       (either (isAccepted (stepOf t step .answer))))
       (for-other step (deedOf step .post))
+
+-- ---- where a call comes from
+
+-- the step is an accepted invoke, and m is the message slot that it answers
+pub record InvokedInto (t : Tables) (step : Step) (m : ℕ) : Type 0 where
+  pub handle : ℕ
+  pub site : ℕ
+  pub operation : ℕ
+  pub object : ℕ
+  pub value : ℕ
+  pub invokes : step ≡ Step.Invoke handle site operation object value
+  pub accepted : isAccepted (stepOf t (Step.Invoke handle site operation object value) .answer) ≡ true
+  pub answers : answerValue (stepOf t (Step.Invoke handle site operation object value) .answer) ≡ m
+
+module _ (t : Tables) (m : ℕ) (z : Sound t) where
+  -- by the own store of a step
+  head-called :
+      (step : Step) → Calling step → isAccepted (stepOf t step .answer) ≡ true → isAccepted (headOf t step .answer) ≡ true
+      → isCalled (messageAt (headOf t step .tables) m .body) ≡ true
+      → (messageAt (headOf t step .tables) m ≡ messageAt t m) ⊎ InvokedInto t step m
+  unfolding headOf
+  head-called step calling a e c =
+      ⊎-elim
+      (λ (at : m ≡ placesAt t step .message). here step calling a at
+      (ap (messageAt (stored t (placesAt t step) (decisionAt t step .left))) at
+      ∙ message-after-stored t (placesAt t step) _ (z .sized) (placed-places t (lookOf step)))
+      c)
+      (λ apart. inl (message-after-stored-other t (placesAt t step) _ m apart))
+      (same-or-other m (placesAt t step .message))
+    where
+      here :
+          (step : Step) → Calling step → isAccepted (stepOf t step .answer) ≡ true → (at : m ≡ placesAt t step .message)
+          → messageAt (stored t (placesAt t step) (decisionAt t step .left)) m ≡ decisionAt t step .left .message
+          → isCalled (messageAt (stored t (placesAt t step) (decisionAt t step .left)) m .body) ≡ true
+          → (messageAt (stored t (placesAt t step) (decisionAt t step .left)) m ≡ messageAt t m) ⊎ InvokedInto t step m
+      here _ (Calling.Invokes h site b k u) a at is c =
+          inr (record {
+            handle = h;
+            site = site;
+            operation = b;
+            object = k;
+            value = u;
+            invokes = refl;
+            accepted = a;
+            answers = invoked-answers t h site b k u z a ∙ sym at;
+          })
+      here step (Calling.Stands _ stands) a at is c =
+          inl (is ∙ stands _ (seenAt t step) (ap (λ (x : Message). isCalled (x .body)) (sym is) ∙ c) ∙ ap (messageAt t) (sym at))
+
+  -- a message slot that holds a call after a step held that message before it, or the step is the accepted invoke that answers the slot
+  pub call-was-invoked :
+      (step : Step) → isCalled (messageAt (stepOf t step .tables) m .body) ≡ true
+      → (messageAt (stepOf t step .tables) m ≡ messageAt t m) ⊎ InvokedInto t step m
+  call-was-invoked step =
+      ⊎-elim
+      (λ a.
+      sound-step-has t step z
+      (λ n u. isCalled (messageAt u m .body) ≡ true → (messageAt u m ≡ messageAt t m) ⊎ InvokedInto t step m)
+      (λ n o l y k c.
+      let same : messageAt (turnOf (lookOf step .trip) n o .tables) m ≡ messageAt (o .tables) m = turn-mail m (lookOf step .trip) n o l y in
+      ⊎-elim (λ e. inl (same ∙ e)) inr (k (ap (λ (x : Message). isCalled (x .body)) (sym same) ∙ c)))
+      (λ e c. head-called step (deedOf step .calling) a e c)
+      (λ u. isCalled (messageAt u m .body) ≡ true → (messageAt u m ≡ messageAt t m) ⊎ InvokedInto t step m)
+      (λ c. inl refl)
+      (λ u k. k))
+      (λ a c. inl (ap (λ (u : Tables). messageAt u m) (refused-leaves t step a)))
+      (either (isAccepted (stepOf t step .answer)))
 
 -- ---- a list of steps
 
