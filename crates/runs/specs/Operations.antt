@@ -13,3 +13,5 @@ pub mod HeldObject
 pub mod Stamped
 pub mod Turned
 pub mod Struck
+pub mod Life
+pub mod Clocked

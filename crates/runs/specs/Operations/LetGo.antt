@@ -32,7 +32,7 @@ use Rattle.runs.specs.Operations.HeldAway.{held-away-after-step}
 use Rattle.runs.specs.Operations.Single.{decision-accepted, single-head}
 
 -- a turn stores its site back
-site-after-turn : (trip : Trip) (n s : ℕ) (o : Outcome) → n < 16 → Sound (o .tables) → siteAt (turnOf trip n o .tables) s ≡ siteAt (o .tables) s
+pub site-after-turn : (trip : Trip) (n s : ℕ) (o : Outcome) → n < 16 → Sound (o .tables) → siteAt (turnOf trip n o .tables) s ≡ siteAt (o .tables) s
 site-after-turn trip n s o l z =
     let at : Places = tripPlaces trip n in
     ap (λ (u : Tables). siteAt u s) (turn-stored trip n o)

@@ -46,7 +46,7 @@ acted-adds :
 unfolding decideOf
 acted-adds _ found seen (Clock.Ticks site n) a e = tick-adds site n seen e
 acted-adds _ found seen (Clock.Delivers m moves) a e = omega (arith, moves found seen e)
-acted-adds _ found seen (Clock.Moves step b moves) a e = omega (arith, moves found seen e)
+acted-adds _ found seen (Clock.Moves step b untick undelivered moves) a e = omega (arith, moves found seen e)
 acted-adds _ found seen (Clock.Rests step b stays) a e = absurd (true≢false (sym a ∙ b))
 
 decided-adds :
@@ -59,7 +59,7 @@ decided-adds step found seen = acted-adds step found seen (deedOf step .clock)
 idle-site : (step : Step) (found : Found) (seen : Seen) → Clock step → actsAtSite step ≡ false → decideOf step found seen .left .site ≡ seen .site
 idle-site _ found seen (Clock.Ticks site n) a = absurd (true≢false a)
 idle-site _ found seen (Clock.Delivers m moves) a = absurd (true≢false a)
-idle-site _ found seen (Clock.Moves step b moves) a = absurd (true≢false (sym b ∙ a))
+idle-site _ found seen (Clock.Moves step b untick undelivered moves) a = absurd (true≢false (sym b ∙ a))
 idle-site _ found seen (Clock.Rests step b stays) a = stays found seen
 
 idle-decided :

@@ -189,13 +189,13 @@ unfolding runOf
 retired-later p t [] ys r = r
 retired-later p t (s ∷ xs) ys r = retired-later p (stepOf t s .tables) xs ys (not-retired p t s (xs ++ ys) r .1)
 
--- among these steps is the delivery that does what the invoke said
-pub record DidAsSaid (t : Tables) (h b k u : ℕ) (steps : List Step) : Type 0 where
+-- among these steps is the delivery of message slot m, where the message has waited as it was, and it does what the invoke said
+pub record DidAsSaid (t : Tables) (m h b k u : ℕ) (steps : List Step) : Type 0 where
   pub first : List Step
-  pub step : Step
   pub rest : List Step
-  pub all : steps ≡ first ++ step ∷ rest
-  pub done : DoneAsSaid (runOf t first) h b k u step
+  pub all : steps ≡ first ++ Step.Deliver m ∷ rest
+  pub waits : messageAt (runOf t first) m ≡ messageAt t m
+  pub done : DoneAsSaid (runOf t first) h b k u (Step.Deliver m)
 
 -- an accepted invoke of a passage that then, before its slot is retired, becomes committed:
 -- before that its call was delivered, and what was done is what the invoke said
@@ -205,7 +205,14 @@ pub commit-did-what-was-sent :
     → isRetired (slotOf h) (historyOf (runOf t₀ before) (Step.Invoke h site b k u ∷ between)) ≡ false
     → passageAt (runOf t₀ (before ++ Step.Invoke h site b k u ∷ between)) (slotOf h) .status ≢ Status.Committed
     → passageAt (stepOf (runOf t₀ (before ++ Step.Invoke h site b k u ∷ between)) commit .tables) (slotOf h) .status ≡ Status.Committed
-    → DidAsSaid (stepOf (runOf t₀ before) (Step.Invoke h site b k u) .tables) h b k u between
+    → DidAsSaid
+    (stepOf (runOf t₀ before) (Step.Invoke h site b k u) .tables)
+    (answerValue (stepOf (runOf t₀ before) (Step.Invoke h site b k u) .answer))
+    h
+    b
+    k
+    u
+    between
 unfolding runOf
 commit-did-what-was-sent {t₀} fresh before h site b k u between commit a kept not-yet committed =
     ⊎-elim
@@ -259,13 +266,13 @@ commit-did-what-was-sent {t₀} fresh before h site b k u between commit a kept 
         refl
         (ap (λ (x : Message). slotOf (x .handle)) same ∙ ap slotOf (said .handle)))
 
-    delivered : (g : TakenUp sent place between) → g .step ≡ Step.Deliver place → DidAsSaid sent h b k u between
+    delivered : (g : TakenUp sent place between) → g .step ≡ Step.Deliver place → DidAsSaid sent place h b k u between
     delivered g e =
         record {
           first = g .first;
-          step = Step.Deliver place;
           rest = g .rest;
           all = g .all ∙ ap (λ (x : Step). g .first ++ x ∷ g .rest) e;
+          waits = g .waits;
           done =
               delivered-as-sent t h site b k u z a (runOf sent (g .first)) (g .waits)
               (subst (λ (x : Step). isAccepted (stepOf (runOf sent (g .first)) x .answer) ≡ true) e (g .accepted));

@@ -4,13 +4,13 @@
 use Prim.Native.Nat.{ℕ, _%_}
 use mathlib.Core.Path.{_≡_, refl, sym, ap, _∙_, subst}
 use mathlib.Core.Logic.{⊎-elim}
-use mathlib.Core.Bool.{true, false, true≢false, false≢true}
+use mathlib.Core.Bool.{true, false≢true}
 use mathlib.Core.List.{List, [], _∷_, _++_, append-nil, append-assoc}
 use lib.Dec.{eqb}
 use borrow.Author.Tests.{eqb-true}
 use Rattle.rules.specs.LoopsLaws.{and-left, and-right}
 use Rattle.rules.specs.Tables.{messageAt, slotOf}
-use Rattle.rules.specs.Answers.{isAccepted, answerValue}
+use Rattle.rules.specs.Answers.{isAccepted}
 use Rattle.rules.specs.Machine.{stepOf}
 use Rattle.rules.specs.Record.{flatOf, isStep}
 use Rattle.rules.specs.StartLaws.{started-is-empty}
