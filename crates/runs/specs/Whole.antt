@@ -1,4 +1,5 @@
 -- What the machine is for: holds are kept until release, a commit rests on what stands, and a pair of changes stands or falls together.
+pub mod Definitions
 pub mod Release
 pub mod Running
 pub mod RestsOn

@@ -2,7 +2,7 @@
 -- And a passage becomes committed by the close of its commit round alone. Assumes nothing.
 use Prim.Native.Nat.{ℕ, _<_}
 use mathlib.Core.Path.{_≡_, refl, sym, ap, _∙_, subst}
-use mathlib.Core.Logic.{_≢_, ⊎-elim, _⊎_}
+use mathlib.Core.Logic.{_≢_, ⊎-elim}
 use mathlib.Core.Bool.{true, false, _&&_, true≢false, false≢true}
 use mathlib.Core.List.{List, _++_}
 use lib.Dec.{ltb}
@@ -32,6 +32,7 @@ use Rattle.runs.specs.Commits.Vow.{RoundFor, RoundFits}
 use Rattle.runs.specs.Commits.VowLaws.{none-not-one, one-not-two, aborted-not-committed, active-runs}
 use Rattle.runs.specs.Commits.Pledged.{Pledged, pledged-run}
 use Rattle.runs.specs.Commits.Since.{Carries, run-carried, step-carried}
+use Rattle.runs.specs.Operations.Definitions.{IsOver}
 
 -- ---- over is over
 
@@ -138,10 +139,6 @@ over-below t p z over =
     (ap (λ (x : Passage). isOver (x .status)) (sym (past-reads (t .passages) p pastPassage (rw (z .sized .passages) (ltb-false p 16 b))))
     ∙ over)))
     (either (ltb p 16))
-
--- committed or aborted, by the words of document 01 and not by the test of a retire
-abbrev pub IsOver : Status → Type 0
-IsOver s = (s ≡ Status.Committed) ⊎ (s ≡ Status.Aborted)
 
 -- in every run: a passage that is committed or aborted is so after any further steps, until an accepted retire of its slot
 pub over-is-final :

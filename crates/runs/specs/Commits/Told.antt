@@ -23,7 +23,7 @@ use Rattle.rules.specs.StoredLaws.{visit-place-same, site-after-stored, site-af
 use Rattle.rules.specs.RangesLaws.{placed-places}
 use Rattle.rules.specs.Events.{isHolding}
 use Rattle.rules.specs.Runs.{Started, runOf}
-use Rattle.runs.specs.Types.{Site, Kind, Phase, Status, Visit, Told, Body, Tables, Step, Places, Seen, Decision}
+use Rattle.runs.specs.Types.{Site, Phase, Status, Visit, Told, Body, Tables, Step, Places, Seen, Decision}
 use Rattle.runs.specs.Walk.Steps.{placesAt, seenAt}
 use Rattle.runs.specs.Walk.Sound.{Sound, sound-step}
 use Rattle.runs.specs.Walk.Taken.{in-range-step}
@@ -32,21 +32,15 @@ use Rattle.runs.specs.Times.Clauses.{Holds}
 use Rattle.runs.specs.Times.Ledgers.{ledgersOf}
 use Rattle.runs.specs.Holders.HeldStore.{Held}
 use Rattle.runs.specs.Holders.Holders.{held-run, held-step}
-use Rattle.runs.specs.Orphans.Orphans.{NothingLeft}
 use Rattle.runs.specs.Promises.Handles.{generation-below}
 use Rattle.runs.specs.Operations.Single.{decisionAt, decision-accepted, single-stored}
-use Rattle.runs.specs.Operations.Stamped.{Stamped, sent-left, stamped-when-told}
+use Rattle.runs.specs.Operations.Stamped.{sent-left, stamped-when-told}
 use Rattle.runs.specs.Commits.VowLaws.{committed-tells}
 use Rattle.runs.specs.Commits.Telling.{Telling, telling-run}
+use Rattle.runs.specs.Operations.Definitions.{Stamped}
+use Rattle.runs.specs.Commits.Definitions.{CanBeTold, StillTells, tellTo}
 
 -- ---- a committed passage goes on telling
-
--- a committed passage whose round is a commit round in phase 2, which every site where the passage has a visit has answered; home has none
-pub record StillTells (t : Tables) (p : ℕ) : Type 0 where
-  pub kind : passageAt t p .round .kind ≡ Kind.Prepare
-  pub phase : passageAt t p .round .phase ≡ Phase.Two
-  pub answered : (s : ℕ) → visitAt t s p .there ≡ true → hasAnswered (passageAt t p .round) s ≡ true
-  pub away : (s : ℕ) → visitAt t s p .there ≡ true → s ≢ passageAt t p .home
 
 -- in every run: a committed passage is in phase 2 of its commit round, and every site where it has a visit has answered and is not home
 pub committed-goes-on-telling :
@@ -101,10 +95,6 @@ takes-empty t m below empty =
     let l : lowestEmpty t < 32 = first-below (λ k. isEmpty (messageAt t k .body)) 32 m below empty in
     let e : min (lowestEmpty t) 31 ≡ lowestEmpty t = omega arith in
     rw e (first-at (λ k. isEmpty (messageAt t k .body)) 32 l)
-
--- home's tell of slot p to a station, by the handle that the slot has
-abbrev pub tellTo : Tables → ℕ → ℕ → Step
-tellTo t p s = Step.Tell (handleOf p (passageAt t p .generation)) s
 
 -- in every run: home may tell every site where its committed passage has a visit.
 -- The tell is accepted where home is up, its clock is below its most, and some message slot is empty
@@ -189,16 +179,6 @@ module _ (t : Tables) (m n p s : ℕ) (below : m < 32) (body : messageAt t m .bo
       (visit-after-stored t at (toldAt Told.Prepare (mailClock saw) saw) (z .sized) (placed-places t (lookOf (Step.Deliver m))))))
 
 -- ---- the theorem
-
--- the delivery of the message that a step answered, on the tables that it left
-abbrev pub heard : Tables → Step → Step
-heard t step = Step.Deliver (answerValue (stepOf t step .answer))
-
--- home may tell slot p's word to the station, the word may be delivered, and after that nothing of the slot is left there
-pub record CanBeTold (t : Tables) (p s : ℕ) : Type 0 where
-  pub told : isAccepted (stepOf t (tellTo t p s) .answer) ≡ true
-  pub taken : isAccepted (stepOf (stepOf t (tellTo t p s) .tables) (heard t (tellTo t p s)) .answer) ≡ true
-  pub nothing : NothingLeft (stepOf (stepOf t (tellTo t p s) .tables) (heard t (tellTo t p s)) .tables) p s
 
 -- in every run: what a committed passage still has at a station can be let go. Home and the station are up, their clocks have room for the two steps,
 -- and some message slot is empty; then home's tell is accepted, and so is the delivery of its word, after which nothing of the passage is left there

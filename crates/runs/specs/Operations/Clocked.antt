@@ -1,36 +1,21 @@
 -- Every accepted step moves the clock of the site where it acts as document 01 says, and no other clock, of any sound tables. Assumes nothing.
-use Prim.Native.Nat.{ℕ, _+_, max}
+use Prim.Native.Nat.{ℕ, _+_}
 use mathlib.Core.Path.{_≡_, refl, sym, ap, _∙_}
-use mathlib.Core.Logic.{_≢_}
-use mathlib.Core.Bool.{true, false, cond, true≢false}
+use mathlib.Core.Bool.{true, false, true≢false}
 use Rattle.rules.specs.Tables.{siteAt}
 use Rattle.rules.specs.Answers.{isAccepted}
 use Rattle.rules.specs.Stations.{tickOf}
 use Rattle.rules.specs.Machine.{lookOf, placesOf, decideOf, foundOf, headOf, turnOf, stored, stepOf}
 use Rattle.rules.specs.RangesLaws.{placed-places}
 use Rattle.rules.specs.StoredLaws.{site-after-stored, site-after-stored-other}
-use Rattle.rules.specs.Record.{flatOf, isStep}
 use Rattle.rules.specs.Runs.{actsAtSite}
 use Rattle.rules.specs.Views.{settled-accepted, Clock, deedOf}
 use Rattle.runs.specs.Types.{Site, Tables, Step, Seen}
 use Rattle.runs.specs.Walk.Steps.{placesAt, seenAt}
 use Rattle.runs.specs.Walk.Sound.{Sound, sound-accepted-has}
-use Rattle.runs.specs.Operations.Definitions.{mailNamed}
+use Rattle.runs.specs.Operations.Definitions.{ClocksMoved, movedFrom}
 use Rattle.runs.specs.Operations.Single.{decisionAt}
 use Rattle.runs.specs.Operations.LetGo.{site-after-turn}
-
--- "tick by n; a delivery to 1 + max(clock, message stamp); any other by 1", from this clock
-abbrev pub movedFrom : Tables → Step → ℕ → ℕ
-movedFrom t step clock =
-    cond (isStep 1 step) (clock + flatOf step .u) (cond (isStep 11 step) (max clock (mailNamed t step .stamp) + 1) (clock + 1))
-
--- the site where the step acts has the moved clock, and every other site the clock that it had
-pub record ClocksMoved (t after : Tables) (step : Step) : Type 0 where
-  pub own :
-      actsAtSite step ≡ true
-      → siteAt after (placesOf t (lookOf step) .site) .clock ≡ movedFrom t step (siteAt t (placesOf t (lookOf step) .site) .clock)
-  pub idle : actsAtSite step ≡ false → siteAt after (placesOf t (lookOf step) .site) .clock ≡ siteAt t (placesOf t (lookOf step) .site) .clock
-  pub others : (s : ℕ) → s ≢ placesOf t (lookOf step) .site → siteAt after s .clock ≡ siteAt t s .clock
 
 -- what the step's own store leaves
 own-clock :

@@ -1,16 +1,19 @@
--- What the laws of single steps speak of: an operation of an object, a visit that is still open, a call as it was sent, a visit that a sweep took.
--- Assumes nothing.
-use Prim.Native.Nat.{ℕ, _%_, _≤_, _<_}
+-- What the laws of single steps speak of: an operation of an object, a visit that is still open, a call as it was sent, a message as it was stamped,
+-- a visit that a sweep took or a crash struck, what a begin makes, how clocks move, and what becomes of a message. Assumes nothing.
+use Prim.Native.Nat.{ℕ, _+_, _%_, _≤_, _<_, max}
 use mathlib.Core.Path.{_≡_}
-use mathlib.Core.Bool.{Bool, true, false, _&&_}
+use mathlib.Core.Logic.{_≢_, _⊎_}
+use mathlib.Core.Bool.{Bool, true, false, cond, _&&_}
+use mathlib.Core.List.{List, _∷_, _++_}
 use lib.Dec.{eqb}
-use Rattle.rules.specs.Tables.{siteAt, visitAt, messageAt, objectSite, slotOf}
-use Rattle.rules.specs.Answers.{isAccepted}
+use Rattle.rules.specs.Tables.{siteAt, passageAt, visitAt, messageAt, objectSite, slotOf}
+use Rattle.rules.specs.Answers.{isAccepted, answerValue}
 use Rattle.rules.specs.Parts.{isEmpty}
 use Rattle.rules.specs.Stations.{isSweepable}
-use Rattle.rules.specs.Machine.{stepOf}
+use Rattle.rules.specs.Machine.{lookOf, placesOf, stepOf}
 use Rattle.rules.specs.Record.{flatOf, isStep}
-use Rattle.runs.specs.Types.{Visit, Call, Body, Message, Tables, Step}
+use Rattle.rules.specs.Runs.{actsAtSite, runOf}
+use Rattle.runs.specs.Types.{Phase, Status, Visit, Call, Body, Message, Tables, Step}
 use Rattle.runs.specs.Walk.Says.{bySaying}
 
 -- ---- operations
@@ -107,3 +110,108 @@ pub record SweptAt (t : Tables) (step : Step) (site slot : ℕ) : Type 0 where
   pub sweepable : isSweepable (visitAt t site slot) ≡ true
   pub released : visitAt t site slot .release ≤ siteAt (stepOf t step .tables) site .clock
   pub gone : visitAt (stepOf t step .tables) site slot .there ≡ false
+
+-- ---- statuses
+
+-- committed or aborted, by the words of document 01 and not by the test of a retire
+abbrev pub IsOver : Status → Type 0
+IsOver s = (s ≡ Status.Committed) ⊎ (s ≡ Status.Aborted)
+
+-- active or committing, by the words of document 01 and not by a test of the rules
+abbrev pub IsRunning : Status → Type 0
+IsRunning s = (s ≡ Status.Active) ⊎ (s ≡ Status.Committing)
+
+-- ---- crashes
+
+-- a visit that a crash has struck: it is there, dead and unprepared, and its quiesce time is not after this clock
+pub record Dead (clock : ℕ) (v : Visit) : Type 0 where
+  pub there : v .there ≡ true
+  pub dead : v .dead ≡ true
+  pub prepared : v .prepared ≡ false
+  pub quiesced : v .quiesce ≤ clock
+
+-- what a crash of the station does to a slot: to its unprepared visit there, and to its active or committing passage whose home the station is
+pub record Struck (before after : Tables) (s p : ℕ) : Type 0 where
+  pub unprepared :
+      visitAt before s p .there ≡ true → visitAt before s p .prepared ≡ false → Dead (siteAt after s .clock) (visitAt after s p)
+  pub aborted : IsRunning (passageAt before p .status) → passageAt before p .home ≡ s → passageAt after p .status ≡ Status.Aborted
+  pub phaseless : IsRunning (passageAt before p .status) → passageAt before p .home ≡ s → passageAt after p .round .phase ≡ Phase.None
+  pub homeless :
+      IsRunning (passageAt before p .status) → passageAt before p .home ≡ s → visitAt before s p .there ≡ true
+      → Dead (siteAt after s .clock) (visitAt after s p)
+
+-- what a crash does: the station is one of the eight and is down after it, and every slot is struck
+pub record Strikes (before after : Tables) (s : ℕ) : Type 0 where
+  pub station-below : s < 8
+  pub down : siteAt after s .up ≡ false
+  pub slots : (p : ℕ) → p < 16 → Struck before after s p
+
+-- ---- messages that home and stations send
+
+-- in this message slot stands a message with this body, from this site to that one, for this handle, stamped with its sender's clock
+pub record Stamped (t : Tables) (place : ℕ) (says : Body) (from to h : ℕ) : Type 0 where
+  pub place-below : place < 32
+  pub body : messageAt t place .body ≡ says
+  pub source : messageAt t place .source ≡ from
+  pub destination : messageAt t place .destination ≡ to
+  pub handle : messageAt t place .handle ≡ h
+  pub stamp : messageAt t place .stamp ≡ siteAt t from .clock
+
+-- ---- begin
+
+-- what a begin a=home, b=slot, u=q, v=r does
+pub record BeginsSo (before after : Tables) (home slot q r : ℕ) : Type 0 where
+  pub home-below : home < 8
+  pub slot-below : slot < 16
+  pub was-free : passageAt before slot .status ≡ Status.Free
+  pub active : passageAt after slot .status ≡ Status.Active
+  pub lives : passageAt after slot .home ≡ home
+  pub there : visitAt after home slot .there ≡ true
+  pub quiesce : visitAt after home slot .quiesce ≡ q
+  pub release : visitAt after home slot .release ≡ r
+  pub unprepared : visitAt after home slot .prepared ≡ false
+  pub alive : visitAt after home slot .dead ≡ false
+
+-- ---- clocks
+
+-- "tick by n; a delivery to 1 + max(clock, message stamp); any other by 1", from this clock
+abbrev pub movedFrom : Tables → Step → ℕ → ℕ
+movedFrom t step clock =
+    cond (isStep 1 step) (clock + flatOf step .u) (cond (isStep 11 step) (max clock (mailNamed t step .stamp) + 1) (clock + 1))
+
+-- the site where the step acts has the moved clock, and every other site the clock that it had
+pub record ClocksMoved (t after : Tables) (step : Step) : Type 0 where
+  pub own :
+      actsAtSite step ≡ true
+      → siteAt after (placesOf t (lookOf step) .site) .clock ≡ movedFrom t step (siteAt t (placesOf t (lookOf step) .site) .clock)
+  pub idle : actsAtSite step ≡ false → siteAt after (placesOf t (lookOf step) .site) .clock ≡ siteAt t (placesOf t (lookOf step) .site) .clock
+  pub others : (s : ℕ) → s ≢ placesOf t (lookOf step) .site → siteAt after s .clock ≡ siteAt t s .clock
+
+-- ---- what becomes of a message
+
+-- the step is an accepted invoke, and m is the message slot that it answers
+pub record InvokedInto (t : Tables) (step : Step) (m : ℕ) : Type 0 where
+  pub handle : ℕ
+  pub site : ℕ
+  pub operation : ℕ
+  pub object : ℕ
+  pub value : ℕ
+  pub invokes : step ≡ Step.Invoke handle site operation object value
+  pub accepted : isAccepted (stepOf t (Step.Invoke handle site operation object value) .answer) ≡ true
+  pub answers : answerValue (stepOf t (Step.Invoke handle site operation object value) .answer) ≡ m
+
+-- among these steps is one that is accepted and delivers or drops message m; until then the message waits as it was
+pub record TakenUp (t : Tables) (m : ℕ) (steps : List Step) : Type 0 where
+  pub first : List Step
+  pub step : Step
+  pub rest : List Step
+  pub all : steps ≡ first ++ step ∷ rest
+  pub waits : messageAt (runOf t first) m ≡ messageAt t m
+  pub accepted : isAccepted (stepOf (runOf t first) step .answer) ≡ true
+  pub own : (step ≡ Step.Deliver m) ⊎ (step ≡ Step.Drop m)
+
+-- the step operates object k for the slot of h, as an invoke with these fields says: it writes u, or it reads
+pub record DoneAsSaid (t : Tables) (h b k u : ℕ) (s : Step) : Type 0 where
+  pub does : operates t (slotOf h) k s ≡ true
+  pub operation : isWrite (mailNamed t s .body) ≡ eqb b 1
+  pub value : toWrite (mailNamed t s .body) ≡ u

@@ -1,9 +1,9 @@
 -- What an accepted begin and an accepted abort do, of any sound tables: a begin finds its slot free and makes an active passage with the times that it names;
 -- an abort ends it. Assumes nothing.
-use Prim.Native.Nat.{ℕ, _%_, _≤_, _<_}
+use Prim.Native.Nat.{ℕ, _%_, _≤_}
 use native.Mathlib.Omega.{arith}
 use mathlib.Core.Path.{_≡_, refl, ap, _∙_}
-use mathlib.Core.Bool.{true, false, _||_}
+use mathlib.Core.Bool.{true, _||_}
 use lib.Dec.{ltb}
 use borrow.Author.Tests.{ltb-false}
 use Rattle.rules.specs.Limits.{slotMost}
@@ -23,21 +23,9 @@ use Rattle.runs.specs.Walk.Steps.{placesAt, seenAt}
 use Rattle.runs.specs.Walk.Sound.{Sound}
 use Rattle.runs.specs.Fits.Life.{free-says}
 use Rattle.runs.specs.Operations.Single.{decision-accepted, single-stored}
+use Rattle.runs.specs.Operations.Definitions.{BeginsSo}
 
 -- ---- begin
-
--- what a begin a=home, b=slot, u=q, v=r does
-pub record BeginsSo (before after : Tables) (home slot q r : ℕ) : Type 0 where
-  pub home-below : home < 8
-  pub slot-below : slot < 16
-  pub was-free : passageAt before slot .status ≡ Status.Free
-  pub active : passageAt after slot .status ≡ Status.Active
-  pub lives : passageAt after slot .home ≡ home
-  pub there : visitAt after home slot .there ≡ true
-  pub quiesce : visitAt after home slot .quiesce ≡ q
-  pub release : visitAt after home slot .release ≡ r
-  pub unprepared : visitAt after home slot .prepared ≡ false
-  pub alive : visitAt after home slot .dead ≡ false
 
 module _ (t : Tables) (home slot q r : ℕ) (z : Sound t) (a : isAccepted (stepOf t (Step.Begin home slot q r) .answer) ≡ true) where
   abbrev Saw : Seen

@@ -6,8 +6,7 @@ use native.Mathlib.Omega.{arith}
 use mathlib.Core.Path.{_≡_, refl, sym, ap, _∙_, subst}
 use mathlib.Core.Logic.{_≢_, ⊎-elim, _⊎_, inl, inr}
 use mathlib.Core.Bool.{true, false, true≢false}
-use mathlib.Core.List.{List, [], _∷_, _++_}
-use lib.Dec.{eqb}
+use mathlib.Core.List.{List, [], _∷_}
 use borrow.Author.Tests.{ltb-false, eq-eqb}
 use Rattle.rules.specs.declared.looking.Trip.{Trip}
 use Rattle.rules.specs.LoopsLaws.{either}
@@ -28,7 +27,7 @@ use Rattle.runs.specs.Walk.Put.{same-or-other}
 use Rattle.runs.specs.Walk.Steps.{placesAt, seenAt}
 use Rattle.runs.specs.Walk.Sound.{Sound, sound-step, sound-step-has}
 use Rattle.runs.specs.Walk.Clocks.{turned-message}
-use Rattle.runs.specs.Operations.Definitions.{mailNamed, operates, isWrite, toWrite}
+use Rattle.runs.specs.Operations.Definitions.{DoneAsSaid, InvokedInto, TakenUp}
 use Rattle.runs.specs.Operations.Single.{decisionAt}
 use Rattle.runs.specs.Operations.Invoked.{invoked-answers, invoked-says}
 
@@ -116,17 +115,6 @@ module _ (t : Tables) (step : Step) (m : ℕ) (z : Sound t) (full : isEmpty (mes
 
 -- ---- where a call comes from
 
--- the step is an accepted invoke, and m is the message slot that it answers
-pub record InvokedInto (t : Tables) (step : Step) (m : ℕ) : Type 0 where
-  pub handle : ℕ
-  pub site : ℕ
-  pub operation : ℕ
-  pub object : ℕ
-  pub value : ℕ
-  pub invokes : step ≡ Step.Invoke handle site operation object value
-  pub accepted : isAccepted (stepOf t (Step.Invoke handle site operation object value) .answer) ≡ true
-  pub answers : answerValue (stepOf t (Step.Invoke handle site operation object value) .answer) ≡ m
-
 module _ (t : Tables) (m : ℕ) (z : Sound t) where
   -- by the own store of a step
   head-called :
@@ -183,16 +171,6 @@ module _ (t : Tables) (m : ℕ) (z : Sound t) where
 
 -- ---- a list of steps
 
--- among these steps is one that is accepted and delivers or drops message m; until then the message waits as it was
-pub record TakenUp (t : Tables) (m : ℕ) (steps : List Step) : Type 0 where
-  pub first : List Step
-  pub step : Step
-  pub rest : List Step
-  pub all : steps ≡ first ++ step ∷ rest
-  pub waits : messageAt (runOf t first) m ≡ messageAt t m
-  pub accepted : isAccepted (stepOf (runOf t first) step .answer) ≡ true
-  pub own : (step ≡ Step.Deliver m) ⊎ (step ≡ Step.Drop m)
-
 -- so a message waits as it was sent, until it is delivered or dropped
 pub mail-waits :
     (t : Tables) (m : ℕ) (ss : List Step) → Sound t → isEmpty (messageAt t m .body) ≡ false → (messageAt (runOf t ss) m ≡ messageAt t m) ⊎ TakenUp t m ss
@@ -219,12 +197,6 @@ mail-waits t m (s ∷ ss) z full =
     (mail-stays t s m z full)
 
 -- ---- what is sent is what is done
-
--- the step operates object k for the slot of h, as an invoke with these fields says: it writes u, or it reads
-pub record DoneAsSaid (t : Tables) (h b k u : ℕ) (s : Step) : Type 0 where
-  pub does : operates t (slotOf h) k s ≡ true
-  pub operation : isWrite (mailNamed t s .body) ≡ eqb b 1
-  pub value : toWrite (mailNamed t s .body) ≡ u
 
 -- an accepted invoke, any steps through which its message waits, and the accepted delivery of it: the delivery does what the invoke said
 pub delivered-as-sent :

@@ -24,15 +24,7 @@ use Rattle.runs.specs.Types.{Site, Visit, Asked, Body, Message, Tables, 
 use Rattle.runs.specs.Walk.Steps.{placesAt, seenAt}
 use Rattle.runs.specs.Walk.Sound.{Sound}
 use Rattle.runs.specs.Operations.Single.{decisionAt, accepted-seen, decision-accepted, single-answer, single-stored}
-
--- in this message slot stands a message with this body, from this site to that one, for this handle, stamped with its sender's clock
-pub record Stamped (t : Tables) (place : ℕ) (says : Body) (from to h : ℕ) : Type 0 where
-  pub place-below : place < 32
-  pub body : messageAt t place .body ≡ says
-  pub source : messageAt t place .source ≡ from
-  pub destination : messageAt t place .destination ≡ to
-  pub handle : messageAt t place .handle ≡ h
-  pub stamp : messageAt t place .stamp ≡ siteAt t from .clock
+use Rattle.runs.specs.Operations.Definitions.{Stamped}
 
 -- ---- what home sends
 

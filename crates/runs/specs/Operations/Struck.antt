@@ -3,7 +3,7 @@
 use Prim.Native.Nat.{ℕ, _%_, _<_, _≤_}
 use native.Mathlib.Omega.{arith}
 use mathlib.Core.Path.{_≡_, refl, sym, ap, _∙_, subst}
-use mathlib.Core.Logic.{⊎-elim, _⊎_, inl, inr}
+use mathlib.Core.Logic.{⊎-elim, inl, inr}
 use mathlib.Core.Bool.{Bool, true, false, cond, not, _||_, false≢true}
 use borrow.Author.Tests.{ltb-false, leb-false, eq-eqb}
 use Rattle.rules.specs.LoopsLaws.{either}
@@ -24,35 +24,9 @@ use Rattle.runs.specs.Walk.Sound.{Sound}
 use Rattle.runs.specs.Operations.Single.{accepted-seen, decision-accepted, single-stored}
 use Rattle.runs.specs.Operations.Stamped.{asked-visit}
 use Rattle.runs.specs.Operations.Turned.{Stays, settled-stays, station-after, slot-after}
+use Rattle.runs.specs.Operations.Definitions.{Dead, IsRunning, Strikes, Struck}
 
 -- ---- crashes
-
--- a visit that a crash has struck: it is there, dead and unprepared, and its quiesce time is not after this clock
-pub record Dead (clock : ℕ) (v : Visit) : Type 0 where
-  pub there : v .there ≡ true
-  pub dead : v .dead ≡ true
-  pub prepared : v .prepared ≡ false
-  pub quiesced : v .quiesce ≤ clock
-
--- active or committing, by the words of document 01 and not by a test of the rules
-abbrev pub Runs : Status → Type 0
-Runs s = (s ≡ Status.Active) ⊎ (s ≡ Status.Committing)
-
--- what a crash of the station does to a slot: to its unprepared visit there, and to its active or committing passage whose home the station is
-pub record Struck (before after : Tables) (s p : ℕ) : Type 0 where
-  pub unprepared :
-      visitAt before s p .there ≡ true → visitAt before s p .prepared ≡ false → Dead (siteAt after s .clock) (visitAt after s p)
-  pub aborted : Runs (passageAt before p .status) → passageAt before p .home ≡ s → passageAt after p .status ≡ Status.Aborted
-  pub phaseless : Runs (passageAt before p .status) → passageAt before p .home ≡ s → passageAt after p .round .phase ≡ Phase.None
-  pub homeless :
-      Runs (passageAt before p .status) → passageAt before p .home ≡ s → visitAt before s p .there ≡ true
-      → Dead (siteAt after s .clock) (visitAt after s p)
-
--- what a crash does: the station is one of the eight and is down after it, and every slot is struck
-pub record Strikes (before after : Tables) (s : ℕ) : Type 0 where
-  pub station-below : s < 8
-  pub down : siteAt after s .up ≡ false
-  pub slots : (p : ℕ) → p < 16 → Struck before after s p
 
 -- a visit that is there and is struck
 quieted-dead : (v : Visit) (clock : ℕ) (hit : Bool) → v .there ≡ true → hit ≡ true → Dead clock (whereThere v (cond hit (quieted v clock false true) v))
@@ -66,7 +40,7 @@ quieted-dead v clock hit e h =
     (when-true (Dead clock) hit (quieted v clock false true) v h (record { there = e; dead = refl; prepared = refl; quiesced = omega arith }))
 
 -- a passage that loses its home
-loses-home : (s : ℕ) (p : Passage) → Runs (p .status) → p .home ≡ s → losesHome s p ≡ true
+loses-home : (s : ℕ) (p : Passage) → IsRunning (p .status) → p .home ≡ s → losesHome s p ≡ true
 loses-home s p (inl r) e = rw (r, eq-eqb (p .home) s e)
 loses-home s p (inr r) e = rw (r, eq-eqb (p .home) s e)
 

@@ -81,3 +81,8 @@ letOffIn t site slot (x ∷ xs) =
 pub record StandsFrom (t u : Tables) (site slot : ℕ) : Type 0 where
   pub promised : Promised u site slot
   pub objects : (k : ℕ) → objectSite k ≡ site → isHolding t slot k ≡ true → isHolding u slot k ≡ true
+
+-- slot p has a visit at the station, and has promised nothing there
+pub record Unpromised (t : Tables) (s p : ℕ) : Type 0 where
+  pub there : visitAt t s p .there ≡ true
+  pub prepared : visitAt t s p .prepared ≡ false

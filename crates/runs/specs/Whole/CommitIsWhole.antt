@@ -36,6 +36,7 @@ use Rattle.runs.specs.Commits.Over.{ClosesCommit, committed-by-closing, 
 use Rattle.runs.specs.Order.Before.{called-by}
 use Rattle.runs.specs.Whole.RestsOn.{bound-at-commit}
 use Rattle.runs.specs.Whole.Whole.{holder-not-retired}
+use Rattle.runs.specs.Whole.Definitions.{HeldOrLetStand, LetStand}
 
 -- ---- what cannot touch a passage whose commit round is closed
 
@@ -92,23 +93,6 @@ whole-after-step t ls step p k slot pledged settled held =
     (either (isHolding (stepOf t step .tables) p k))
 
 -- ---- the theorem
-
--- among these steps, run after the steps before, is one by which p let object k go, and right after it this was the width that stands.
--- (Where the slot is used again later, the letting go may be of the later use; but the theorem speaks of every list of steps, the shortest too)
-pub record LetStand (t₀ : Tables) (before steps : List Step) (p k width : ℕ) : Type 0 where
-  pub first : List Step
-  pub step : Step
-  pub rest : List Step
-  pub all : steps ≡ first ++ step ∷ rest
-  pub held : isHolding (runOf t₀ (before ++ first)) p k ≡ true
-  pub let-go : isHolding (stepOf (runOf t₀ (before ++ first)) step .tables) p k ≡ false
-  pub stands : restOf t₀ ((before ++ first) ++ step ∷ []) k ≡ width
-
--- after these steps the passage holds the object with this value, or has let it go so
-abbrev pub HeldOrLetStand : Tables → List Step → List Step → ℕ → ℕ → ℕ → Type 0
-HeldOrLetStand t₀ before steps p k width =
-    ((isHolding (runOf t₀ (before ++ steps)) p k ≡ true) × (objectAt (runOf t₀ (before ++ steps)) k .value ≡ width))
-    ⊎ LetStand t₀ before steps p k width
 
 -- one more step at the front
 let-stand-later :

@@ -31,14 +31,15 @@ use Rattle.runs.specs.Fits.Life.{free-says}
 use Rattle.runs.specs.Kept.Touched.{sum-over-put}
 use Rattle.runs.specs.Kept.Closing.{call-places, closing-no-call, closing-none-lost}
 use Rattle.runs.specs.Orphans.Orphans.{isRetired}
-use Rattle.runs.specs.Operations.Definitions.{SaysCall}
+use Rattle.runs.specs.Operations.Definitions.{SaysCall, TakenUp}
 use Rattle.runs.specs.Operations.Single.{decision-accepted, single-head}
 use Rattle.runs.specs.Operations.Invoked.{invoked-says}
-use Rattle.runs.specs.Operations.Mail.{TakenUp, mail-waits, DoneAsSaid, delivered-as-sent}
+use Rattle.runs.specs.Operations.Mail.{mail-waits, delivered-as-sent}
 use Rattle.runs.specs.Commits.Pledged.{Pledged, pledged-run, pledged-after-head}
 use Rattle.runs.specs.Commits.Since.{own-leads, Carried, not-retired, run-carried}
 use Rattle.runs.specs.Commits.Over.{NoWay, committed-by-closing}
 use Rattle.runs.specs.Whole.Lost.{Short, LostTo, lost-carries}
+use Rattle.runs.specs.Whole.Definitions.{CallOf, DidAsSaid}
 
 -- ---- a call is dropped
 
@@ -120,12 +121,6 @@ module _ (t : Tables) (ls : ℕ → Ledger) (m : ℕ) (k : Pledged t ls) (call :
 
 -- ---- and keeps its passage from committing
 
--- message slot m holds a call of slot p
-pub record CallOf (t : Tables) (p m : ℕ) : Type 0 where
-  pub call : Call
-  pub body : messageAt t m .body ≡ Body.Call call
-  pub own : slotOf (messageAt t m .handle) ≡ p
-
 -- a passage of which a call was dropped does not become committed, until its slot is retired
 pub no-commit-after-a-lost-call :
     {t₀ : Tables} → Started t₀ → (before : List Step) (m : ℕ) (between : List Step) (commit : Step) (p : ℕ) → CallOf (runOf t₀ before) p m
@@ -188,14 +183,6 @@ retired-later :
 unfolding runOf
 retired-later p t [] ys r = r
 retired-later p t (s ∷ xs) ys r = retired-later p (stepOf t s .tables) xs ys (not-retired p t s (xs ++ ys) r .1)
-
--- among these steps is the delivery of message slot m, where the message has waited as it was, and it does what the invoke said
-pub record DidAsSaid (t : Tables) (m h b k u : ℕ) (steps : List Step) : Type 0 where
-  pub first : List Step
-  pub rest : List Step
-  pub all : steps ≡ first ++ Step.Deliver m ∷ rest
-  pub waits : messageAt (runOf t first) m ≡ messageAt t m
-  pub done : DoneAsSaid (runOf t first) h b k u (Step.Deliver m)
 
 -- an accepted invoke of a passage that then, before its slot is retired, becomes committed:
 -- before that its call was delivered, and what was done is what the invoke said

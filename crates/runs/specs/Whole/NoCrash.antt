@@ -8,7 +8,7 @@ use mathlib.Core.Bool.{true, false, true≢false, false≢true}
 use mathlib.Core.List.{List, _∷_, _++_}
 use Rattle.rules.specs.declared.looking.Trip.{Trip}
 use Rattle.rules.specs.LoopsLaws.{cond-keeps}
-use Rattle.rules.specs.Tables.{passageAt, visitAt}
+use Rattle.rules.specs.Tables.{passageAt}
 use Rattle.rules.specs.Answers.{isAccepted}
 use Rattle.rules.specs.Parts.{isFree, isOver, abortedPassage, askedVisit, askedOf, quieted}
 use Rattle.rules.specs.Rounds.{roundTold}
@@ -25,7 +25,7 @@ use Rattle.runs.specs.Times.Ledgers.{headLedgers, turnLedgers, ledgersOf
 use Rattle.runs.specs.Orphans.Orphans.{isRetired}
 use Rattle.runs.specs.Moves.Definitions.{Move, Turn}
 use Rattle.runs.specs.Moves.Laws.{seen-visit-after, where-is, made-at-unseen, turned-unmade}
-use Rattle.runs.specs.Operations.Struck.{Runs, Struck, crash-strikes}
+use Rattle.runs.specs.Operations.Struck.{crash-strikes}
 use Rattle.runs.specs.Commits.Vow.{RoundFor, RoundFits}
 use Rattle.runs.specs.Commits.VowLaws.{none-not-one}
 use Rattle.runs.specs.Commits.Pledged.{Pledged, pledged-run, pledged-after-step}
@@ -34,6 +34,8 @@ use Rattle.runs.specs.Commits.Over.{NoWay, StatusIs, over-carries, over-
 use Rattle.runs.specs.Commits.Telling.{marks-told, telling-run}
 use Rattle.runs.specs.Order.Gone.{seen-used}
 use Rattle.runs.specs.Whole.RestsOn.{bound-at-commit}
+use Rattle.runs.specs.Operations.Definitions.{IsRunning, Struck}
+use Rattle.runs.specs.Promises.Definitions.{Unpromised}
 
 -- ---- a dead visit stays dead
 
@@ -147,11 +149,6 @@ module _ (s : ℕ) where
 
 -- ---- the theorem
 
--- slot p has a visit at the station, and has promised nothing there
-pub record Unpromised (t : Tables) (s p : ℕ) : Type 0 where
-  pub there : visitAt t s p .there ≡ true
-  pub prepared : visitAt t s p .prepared ≡ false
-
 -- an aborted passage has no commit round that asks
 aborted-not-closing : (p : Passage) → RoundFits p → p .status ≡ Status.Aborted → ClosesCommit p → ⊥
 aborted-not-closing p fits e closes =
@@ -203,7 +200,7 @@ commit-rests-on-no-crash {t₀} fresh before site between commit p slot crashed 
     used = seen-used site (pledged .kept .slots p slot) (pledged .kept .slots p slot .mirror site (bare .there) .0)
 
     -- so it runs, or is over
-    runs-or-over : (s : Status) → passageAt t p .status ≡ s → Runs s ⊎ (isOver s ≡ true)
+    runs-or-over : (s : Status) → passageAt t p .status ≡ s → IsRunning s ⊎ (isOver s ≡ true)
     runs-or-over Status.Free e = absurd (true≢false (sym (ap isFree e) ∙ used))
     runs-or-over Status.Active e = inl (inl refl)
     runs-or-over Status.Committing e = inl (inr refl)

@@ -29,7 +29,6 @@ use Rattle.runs.specs.Orphans.Widths.{restOf}
 use Rattle.runs.specs.Orphans.Rests.{standing}
 use Rattle.runs.specs.Orphans.RestSteps.{standing-after-step}
 use Rattle.runs.specs.Orphans.Undone.{rest-is-standing, value-is-rest}
-use Rattle.runs.specs.Promises.Definitions.{Promised}
 use Rattle.runs.specs.Operations.Definitions.{operates}
 use Rattle.runs.specs.Operations.Operated.{operated-below, operated-was-free-or-own, operated-is-held, operated-reads, standing-after-operated}
 use Rattle.runs.specs.Commits.Pledged.{Pledged, pledged-after-step, pledged-run}
@@ -37,6 +36,7 @@ use Rattle.runs.specs.Commits.Since.{not-retired, step-carried}
 use Rattle.runs.specs.Commits.Over.{StatusIs, NoWay, over-carries, ClosesCommit, committed-by-closing}
 use Rattle.runs.specs.Order.Gone.{Gone, gone-carries}
 use Rattle.runs.specs.Order.Before.{SinceLetGo, let-go-at-once}
+use Rattle.runs.specs.Whole.Definitions.{RestsOn}
 
 -- ---- from the operation on
 
@@ -99,12 +99,6 @@ bound-at-commit t ls p s slot k closes seen =
     let hold = k .kept .slots p slot in
     let yes = closing-binding (viewOf t p) (ls p) hold (closes .asks) (closes .closed) (ap isBinding (closes .kind)) s seen in
     k .vows p slot .asked (closes .kind) (closes .asks) s seen (hold .passage .kept s (hold .sites s seen .place) yes .answered)
-
--- what a commit of slot p rests on at object k, in tables after the steps ss, where the object was operated after the steps before
-pub record RestsOn (t₀ : Tables) (before ss : List Step) (p k : ℕ) : Type 0 where
-  pub promised : Promised (runOf t₀ ss) (objectSite k) p
-  pub holds : isHolding (runOf t₀ ss) p k ≡ true
-  pub stands : restOf t₀ ss k ≡ restOf t₀ before k
 
 -- p operated k at step s of a run from the start, and no accepted step since retired its slot; now p becomes committed by a step.
 -- Then in the tables before that step its visit at k's station is there and prepared, it holds k,

@@ -22,7 +22,6 @@ use Rattle.runs.specs.Times.View.{View, Ledger}
 use Rattle.runs.specs.Times.Clauses.{Holds}
 use Rattle.runs.specs.Times.Ledgers.{ledgersOf}
 use Rattle.runs.specs.Orphans.Orphans.{isRetired}
-use Rattle.runs.specs.Operations.Struck.{Runs}
 use Rattle.runs.specs.Moves.Definitions.{OpenedFrom, Move, Turn}
 use Rattle.runs.specs.Moves.Laws.{seen-visit-after, where-is, made-at-unseen, turned-unmade}
 use Rattle.runs.specs.Commits.VowLaws.{active-runs}
@@ -30,6 +29,7 @@ use Rattle.runs.specs.Commits.Pledged.{pledged-run}
 use Rattle.runs.specs.Commits.Since.{Carries, run-carried}
 use Rattle.runs.specs.Commits.Over.{NoWay}
 use Rattle.runs.specs.Order.Gone.{seen-used}
+use Rattle.runs.specs.Operations.Definitions.{IsRunning}
 
 -- ---- a passage that runs has run
 
@@ -197,7 +197,7 @@ module _ (r s : ℕ) where
 pub release-while-running :
     {t₀ : Tables} → Started t₀ → (before after : List Step) (p s : ℕ) → p < 16 → visitAt (runOf t₀ before) s p .there ≡ true
     → isRetired p (historyOf (runOf t₀ before) after) ≡ false
-    → Runs (passageAt (runOf t₀ (before ++ after)) p .status) → visitAt (runOf t₀ (before ++ after)) s p .there ≡ true
+    → IsRunning (passageAt (runOf t₀ (before ++ after)) p .status) → visitAt (runOf t₀ (before ++ after)) s p .there ≡ true
     → visitAt (runOf t₀ before) s p .release ≤ visitAt (runOf t₀ (before ++ after)) s p .release
 release-while-running {t₀} fresh before after p s slot there kept runs now =
     let k = pledged-run fresh before in

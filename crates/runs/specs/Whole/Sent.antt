@@ -19,18 +19,10 @@ use Rattle.rules.specs.Views.{isCalled}
 use Rattle.runs.specs.Types.{Body, Message, Tables, Step}
 use Rattle.runs.specs.Walk.Steps.{run-on}
 use Rattle.runs.specs.Walk.Sound.{sound-run}
-use Rattle.runs.specs.Operations.Definitions.{mailNamed, callsFor, operates, isWrite, toWrite, SaysCall}
+use Rattle.runs.specs.Operations.Definitions.{mailNamed, callsFor, operates, isWrite, toWrite, SaysCall, InvokedInto}
 use Rattle.runs.specs.Operations.Invoked.{invoked-says}
-use Rattle.runs.specs.Operations.Mail.{InvokedInto, call-was-invoked, DoneAsSaid}
-
--- after the steps ss from t₀: an accepted invoke among them answered message slot m, and what stands there is what it left
-pub record SentBefore (t₀ : Tables) (ss : List Step) (m : ℕ) : Type 0 where
-  pub first : List Step
-  pub step : Step
-  pub rest : List Step
-  pub all : ss ≡ first ++ step ∷ rest
-  pub invoked : InvokedInto (runOf t₀ first) step m
-  pub waits : messageAt (runOf t₀ ss) m ≡ messageAt (stepOf (runOf t₀ first) step .tables) m
+use Rattle.runs.specs.Operations.Mail.{call-was-invoked}
+use Rattle.runs.specs.Whole.Definitions.{SentBefore, WasInvoked}
 
 module _ {t₀ : Tables} (fresh : Started t₀) (m : ℕ) where
   -- one more step
@@ -73,13 +65,6 @@ module _ {t₀ : Tables} (fresh : Started t₀) (m : ℕ) where
   call-was-sent ss = sent-from [] ss (λ c. absurd (false≢true (ap isCalled (sym (started-is-empty fresh .empty m)) ∙ c)))
 
 -- ---- an operation
-
--- an operation after the steps ss does what an invoke among them said, for the same slot
-pub record WasInvoked (t₀ : Tables) (ss : List Step) (p k : ℕ) (s : Step) : Type 0 where
-  pub sent : SentBefore t₀ ss (flatOf s .c % 32)
-  pub slot : slotOf (sent .invoked .handle) ≡ p
-  pub object : sent .invoked .object ≡ k
-  pub done : DoneAsSaid (runOf t₀ ss) (sent .invoked .handle) (sent .invoked .operation) (sent .invoked .object) (sent .invoked .value) s
 
 -- a body that calls for an object is a call
 calls-called : (k : ℕ) (b : Body) → callsFor k b ≡ true → isCalled b ≡ true
@@ -139,7 +124,11 @@ operation-was-invoked {t₀} fresh ss p k s e =
         (invoked-says (runOf t₀ (sent .first)) (went .handle) (went .site) (went .operation) (went .object) (went .value)
         (sound-run fresh (sent .first)) (went .accepted))
 
-    same : mailNamed t s ≡ messageAt (stepOf (runOf t₀ (sent .first)) (Step.Invoke (went .handle) (went .site) (went .operation) (went .object) (went .value)) .tables) m
+    same :
+        mailNamed t s
+        ≡ messageAt
+        (stepOf (runOf t₀ (sent .first)) (Step.Invoke (went .handle) (went .site) (went .operation) (went .object) (went .value)) .tables)
+        m
     same = sent .waits ∙ ap (λ (x : Step). messageAt (stepOf (runOf t₀ (sent .first)) x .tables) m) (went .invokes)
 
     body : mailNamed t s .body ≡ Body.Call (said .call)

@@ -31,13 +31,9 @@ use Rattle.runs.specs.Operations.Definitions.{SweptAt}
 use Rattle.runs.specs.Commits.Pledged.{pledged-run}
 use Rattle.runs.specs.Commits.Over.{over-is-final, over-after-step}
 use Rattle.runs.specs.Whole.Release.{holds-until-release}
+use Rattle.runs.specs.Whole.Definitions.{ChangedBy}
 
 -- ---- only the holder's own commit changes a width that stands
-
-pub record ChangedBy (t : Tables) (step : Step) (k : ℕ) : Type 0 where
-  pub holder : ℕ
-  pub held : isHolding t holder k ≡ true
-  pub committed : passageAt (stepOf t step .tables) holder .status ≡ Status.Committed
 
 -- where the width that stands changes at a step, its holder before the step is a passage that is committed after it
 pub changed-by-its-holder :

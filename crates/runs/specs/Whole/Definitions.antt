@@ -1,0 +1,77 @@
+-- What the theorems that end the story speak of: what a commit rests on, what it lets stand, and what was sent and done. Assumes nothing.
+use Prim.Native.Nat.{ℕ, _%_}
+use mathlib.Core.Path.{_≡_}
+use mathlib.Core.Logic.{_⊎_}
+use mathlib.Core.Bool.{true, false}
+use mathlib.Core.List.{List, [], _∷_, _++_}
+use Rattle.rules.specs.Tables.{objectAt, passageAt, messageAt, objectSite, slotOf}
+use Rattle.rules.specs.Machine.{stepOf}
+use Rattle.rules.specs.Record.{flatOf}
+use Rattle.rules.specs.Runs.{runOf}
+use Rattle.rules.specs.Events.{isHolding}
+use Rattle.runs.specs.Types.{Status, Call, Body, Tables, Step}
+use Rattle.runs.specs.Orphans.Widths.{restOf}
+use Rattle.runs.specs.Promises.Definitions.{Promised}
+use Rattle.runs.specs.Operations.Definitions.{InvokedInto, DoneAsSaid}
+
+-- ---- what a commit rests on, and what it lets stand
+
+-- what a commit of slot p rests on at object k, in tables after the steps ss, where the object was operated after the steps before
+pub record RestsOn (t₀ : Tables) (before ss : List Step) (p k : ℕ) : Type 0 where
+  pub promised : Promised (runOf t₀ ss) (objectSite k) p
+  pub holds : isHolding (runOf t₀ ss) p k ≡ true
+  pub stands : restOf t₀ ss k ≡ restOf t₀ before k
+
+pub record ChangedBy (t : Tables) (step : Step) (k : ℕ) : Type 0 where
+  pub holder : ℕ
+  pub held : isHolding t holder k ≡ true
+  pub committed : passageAt (stepOf t step .tables) holder .status ≡ Status.Committed
+
+-- among these steps, run after the steps before, is one by which p let object k go, and right after it this was the width that stands.
+-- (Where the slot is used again later, the letting go may be of the later use; but the theorem speaks of every list of steps, the shortest too)
+pub record LetStand (t₀ : Tables) (before steps : List Step) (p k width : ℕ) : Type 0 where
+  pub first : List Step
+  pub step : Step
+  pub rest : List Step
+  pub all : steps ≡ first ++ step ∷ rest
+  pub held : isHolding (runOf t₀ (before ++ first)) p k ≡ true
+  pub let-go : isHolding (stepOf (runOf t₀ (before ++ first)) step .tables) p k ≡ false
+  pub stands : restOf t₀ ((before ++ first) ++ step ∷ []) k ≡ width
+
+-- after these steps the passage holds the object with this value, or has let it go so
+abbrev pub HeldOrLetStand : Tables → List Step → List Step → ℕ → ℕ → ℕ → Type 0
+HeldOrLetStand t₀ before steps p k width =
+    ((isHolding (runOf t₀ (before ++ steps)) p k ≡ true) × (objectAt (runOf t₀ (before ++ steps)) k .value ≡ width))
+    ⊎ LetStand t₀ before steps p k width
+
+-- ---- what was sent and done
+
+-- message slot m holds a call of slot p
+pub record CallOf (t : Tables) (p m : ℕ) : Type 0 where
+  pub call : Call
+  pub body : messageAt t m .body ≡ Body.Call call
+  pub own : slotOf (messageAt t m .handle) ≡ p
+
+-- among these steps is the delivery of message slot m, where the message has waited as it was, and it does what the invoke said
+pub record DidAsSaid (t : Tables) (m h b k u : ℕ) (steps : List Step) : Type 0 where
+  pub first : List Step
+  pub rest : List Step
+  pub all : steps ≡ first ++ Step.Deliver m ∷ rest
+  pub waits : messageAt (runOf t first) m ≡ messageAt t m
+  pub done : DoneAsSaid (runOf t first) h b k u (Step.Deliver m)
+
+-- after the steps ss from t₀: an accepted invoke among them answered message slot m, and what stands there is what it left
+pub record SentBefore (t₀ : Tables) (ss : List Step) (m : ℕ) : Type 0 where
+  pub first : List Step
+  pub step : Step
+  pub rest : List Step
+  pub all : ss ≡ first ++ step ∷ rest
+  pub invoked : InvokedInto (runOf t₀ first) step m
+  pub waits : messageAt (runOf t₀ ss) m ≡ messageAt (stepOf (runOf t₀ first) step .tables) m
+
+-- an operation after the steps ss does what an invoke among them said, for the same slot
+pub record WasInvoked (t₀ : Tables) (ss : List Step) (p k : ℕ) (s : Step) : Type 0 where
+  pub sent : SentBefore t₀ ss (flatOf s .c % 32)
+  pub slot : slotOf (sent .invoked .handle) ≡ p
+  pub object : sent .invoked .object ≡ k
+  pub done : DoneAsSaid (runOf t₀ ss) (sent .invoked .handle) (sent .invoked .operation) (sent .invoked .object) (sent .invoked .value) s
