@@ -354,7 +354,7 @@ static bool move_drop(struct record *r)
         if (!move_on_message(r, DELIVER))
             return false;
         int number = foresee(*r).number;
-        if (number == 6 || number == 8 || number == 9 || tries == 3)
+        if (number == 6 || number == 8 || number == 9 || number == 13 || tries == 3)
             break;
     }
     r->code = DROP;
@@ -835,70 +835,202 @@ static void scene_full(void)
     }
 }
 
-/* Call 1,000 and 1,001, sent and received, and the rounds that count them. */
-static void scene_calls(void)
+/* Fills the message table with calls of the passage. */
+static void scene_fill(int slot, int from, int to)
 {
-    int slot = scene_begin(0, TIME_MAX, TIME_MAX);
-    int to = between(1, 2) == 1 ? 1 : 0;
-    if (slot < 0)
-        return;
-    uint32_t lost = percent(50) ? 0 : chance(3);
-    for (uint32_t i = 0; i < CALLS_MAX; i++) {
-        struct answer answer = scene_call(slot, 0, to);
-        if (answer.number != 0)
-            break;
-        put(make(i < lost ? DROP : DELIVER, 0, 0, (int)answer.value, 0, 0, 0));
-    }
-    scene_call(slot, 0, to);
-    scene_visit(slot, 0, 3);
-    for (int i = 0; i < 5; i++) {
-        struct answer answer = scene_call(slot, 3, to);
-        if (answer.number == 0 && scene_deliver(answer.value).number != 0 && percent(80))
-            put(make(DROP, 0, 0, (int)answer.value, 0, 0, 0));
-    }
-    put(make(REFRESH, 0, 0, 0, handle_of(&t, slot), TIME_MAX, TIME_MAX));
-    scene_ask(slot, 1);
+    while (lowest_empty_message(&t) < MESSAGES && scene_call(slot, from, to).number == 0)
+        continue;
+}
+
+/* The lowest call of the passage that is on its way, or 0. */
+static uint32_t lowest_call_of(int slot)
+{
+    for (uint32_t m = 0; m < MESSAGES; m++)
+        if (t.message[m].kind == CALL && slot_of(t.message[m].handle) == slot)
+            return m;
+    return 0;
+}
+
+/* Delivers some calls of the passage and drops the others. */
+static void scene_empty(int slot)
+{
+    for (int m = 0; m < MESSAGES; m++)
+        if (t.message[m].kind == CALL && slot_of(t.message[m].handle) == slot)
+            put(make(percent(50) ? DELIVER : DROP, 0, 0, m, 0, 0, 0));
+}
+
+/* A refresh round over all visits of the passage, with a try to close it before and after. */
+static void scene_count(int slot, uint32_t q)
+{
+    put(make(REFRESH, 0, 0, 0, handle_of(&t, slot), q, q));
     on_handle(CLOSE, slot);
-    scene_ask(slot, 3);
+    for (int site = 0; site < SITES; site++)
+        if (site != t.passage[slot].home && t.visit[site][slot].there)
+            scene_ask(slot, site);
     on_handle(CLOSE, slot);
 }
 
-/* Round 1,000 and 1,001, for each step that opens one. */
+/* Call 1,000 and 1,001, sent and received, and the rounds that count them.
+ * The calls go from home or from a station away, to another station or to the same one. Another passage fills the message table, and holds an object where they go. */
+static void scene_calls(void)
+{
+    static uint32_t turn;
+    int home = (int)chance(SITES), more = (home + 3) % SITES, elsewhere = (home + 4) % SITES;
+    int from = turn % 2 == 0 ? home : (home + 1) % SITES;
+    int to = turn / 2 % 2 == 0 ? (home + 2) % SITES : from;
+    uint32_t received = CALLS_MAX - turn++ % 3; /* how far these calls bring the count there; the rest of them are lost */
+    uint32_t q = between(20000, 40000);
+    int slot = scene_begin(home, q, q + chance(1000)), other = scene_begin(from, TIME_MAX, TIME_MAX);
+    if (slot < 0 || other < 0)
+        return;
+    const struct visit *there = &t.visit[to][slot];
+    if (from != home)
+        scene_visit(slot, home, from);
+    scene_visit(slot, home, more);
+    scene_visit(other, from, to);
+    for (uint32_t i = 1; i < CALLS_MAX; i++) {
+        struct answer call = scene_call(slot, from, to);
+        if (call.number != 0)
+            break;
+        put(make(there->received < received ? DELIVER : DROP, 0, 0, (int)call.value, 0, 0, 0));
+    }
+    /* call 1,000 and 1,001, each as message 33 and as message 32 */
+    scene_fill(other, from, to);
+    scene_call(slot, from, to);
+    scene_deliver(lowest_call_of(other));
+    struct answer last = scene_call(slot, from, to);
+    scene_call(slot, from, to);
+    put(make(there->received < received ? DELIVER : DROP, 0, 0, (int)last.value, 0, 0, 0));
+    scene_call(slot, from, to);
+    scene_visit(slot, from, elsewhere);
+    scene_empty(other);
+    scene_call(slot, from, to);
+    if (received == CALLS_MAX)
+        scene_count(slot, q);
+    /* calls from a third station, one of them to the object that the other passage holds */
+    struct answer held = put(make(INVOKE, more, 0, to * OBJECTS_PER_SITE + other % OBJECTS_PER_SITE, handle_of(&t, slot), 0, 0));
+    for (int i = 0; i < 5; i++) {
+        scene_deliver(held.value);
+        struct answer call = scene_call(slot, more, to);
+        if (call.number == 0 && scene_deliver(call.value).number != 0 && percent(80))
+            put(make(DROP, 0, 0, (int)call.value, 0, 0, 0));
+    }
+    /* a call to an object that nobody holds, delivered too late to count */
+    int unheld = to * OBJECTS_PER_SITE + (other + 1) % OBJECTS_PER_SITE;
+    struct answer late = put(make(INVOKE, more, 0, unheld, handle_of(&t, slot), 0, 0));
+    scene_fill(other, from, to);
+    scene_deliver(late.value);
+    scene_deliver(held.value);
+    scene_empty(other);
+    scene_visit(slot, to, elsewhere);
+    if (to != from)
+        scene_visit(slot, more, from);
+    /* both counts at Q - 1 and at Q */
+    next_step_at(from, q - 1);
+    next_step_at(to, q - 1);
+    for (int i = 0; i < 2; i++) {
+        scene_call(slot, from, to);
+        scene_deliver(late.value);
+        put(make(TICK, from, 0, 0, 0, 1, 0));
+        if (to != from)
+            put(make(TICK, to, 0, 0, 0, 1, 0));
+    }
+    /* the object was not taken: the other passage gets it */
+    struct answer taken = put(make(INVOKE, from, 0, unheld, handle_of(&t, other), 0, 0));
+    scene_deliver(taken.value);
+    scene_count(slot, TIME_MAX);
+    /* both counts where the station is down */
+    put(make(CRASH, from, 0, 0, 0, 0, 0));
+    if (to != from)
+        put(make(CRASH, to, 0, 0, 0, 0, 0));
+    scene_call(slot, from, to);
+    scene_deliver(late.value);
+    put(make(RECOVER, from, 0, 0, 0, 0, 0));
+    if (to != from)
+        put(make(RECOVER, to, 0, 0, 0, 0, 0));
+}
+
+/* Opens a round of the kind, a refresh with that Q. */
+static struct answer scene_round(int slot, int kind, uint32_t q)
+{
+    if (kind == KIND_REFRESH)
+        return put(make(REFRESH, 0, 0, 0, handle_of(&t, slot), q, q));
+    return on_handle(kind == KIND_TERMINATE ? TERMINATE : PREPARE, slot);
+}
+
+/* Tries a round of each kind. */
+static void scene_each_round(int slot, uint32_t q)
+{
+    for (int kind = KIND_REFRESH; kind <= KIND_PREPARE; kind++)
+        scene_round(slot, kind, q);
+}
+
+/* Round 1,000 by one of the steps that open a round, then 1,001 by each of them.
+ * It is tried with the message table full and not, in a wrong state, and then at a station that is down and without the home visit; or at the end of the clock. */
 static void scene_rounds(void)
 {
     static uint32_t turn;
-    uint32_t q = TIME_MAX - chance(2), refreshes = chance(ROUND_MAX), prepares = chance(ROUND_MAX - refreshes);
-    switch (turn++ % 3) {
-    case 0: refreshes = ROUND_MAX; break;
-    case 1: prepares = ROUND_MAX; break;
-    default: break; /* terminate comes to 1,000 */
-    }
-    int slot = scene_begin(0, q, TIME_MAX);
-    if (slot < 0)
+    int last = KIND_REFRESH + (int)(turn % 3); /* the kind of round 1,000 */
+    bool at_the_end = turn % 2 == 1;
+    bool stays_open = last == KIND_PREPARE && turn % 12 != 2; /* a prepare that closes lets no round be tried after it */
+    turn++;
+    int home = (int)chance(SITES), x = (home + 1 + (int)chance(SITES - 1)) % SITES;
+    uint32_t refreshes = last == KIND_REFRESH ? ROUND_MAX : chance(ROUND_MAX);
+    uint32_t prepares = last == KIND_PREPARE ? ROUND_MAX : chance(ROUND_MAX - refreshes);
+    uint32_t q = at_the_end ? TIME_MAX - chance(2) : between(4000, 9000);
+    uint32_t r = at_the_end ? TIME_MAX : q + chance(100);
+    int slot = scene_begin(home, q, r), other = scene_begin(x, TIME_MAX, TIME_MAX);
+    if (slot < 0 || other < 0)
         return;
-    scene_visit(slot, 0, 5);
-    for (uint32_t i = 0; i < refreshes; i++) {
-        put(make(REFRESH, 0, 0, 0, handle_of(&t, slot), q, q));
+    const struct round *round = &t.passage[slot].round;
+    scene_visit(slot, home, x);
+    for (uint32_t i = 0; i < refreshes && round->number < ROUND_MAX - 1; i++) {
+        scene_round(slot, KIND_REFRESH, q);
         if (percent(2)) {
-            scene_ask(slot, 5);
-            if (on_handle(CLOSE, slot).number == 0)
-                put(make(TELL, 5, 0, 0, handle_of(&t, slot), 0, 0));
+            scene_ask(slot, x);
+            on_handle(CLOSE, slot);
+            struct answer told = put(make(TELL, x, 0, 0, handle_of(&t, slot), 0, 0));
+            if (told.number == 0 && percent(80))
+                scene_deliver(told.value);
         }
     }
-    put(make(REFRESH, 0, 0, 0, handle_of(&t, slot), q, q));
-    for (uint32_t i = 0; i < prepares && t.passage[slot].round.number < ROUND_MAX; i++)
+    for (uint32_t i = 0; i < prepares && round->number < ROUND_MAX - 1; i++)
         on_handle(PREPARE, slot);
-    on_handle(PREPARE, slot);
-    put(make(ASK, 5, 0, 0, handle_of(&t, slot), 0, 0));
-    on_handle(ABORT, slot);
-    while (t.passage[slot].round.number < ROUND_MAX && !sheet_is_full())
+    if (last == KIND_TERMINATE)
+        on_handle(ABORT, slot);
+    while (last == KIND_TERMINATE && round->number < ROUND_MAX - 1 && !sheet_is_full())
         on_handle(TERMINATE, slot);
-    on_handle(TERMINATE, slot);
-    if (t.passage[slot].round.phase == 1)
-        scene_ask(slot, 5);
-    on_handle(CLOSE, slot);
-    put(make(TELL, 5, 0, 0, handle_of(&t, slot), 0, 0));
-    put(make(DELIVER, 0, 0, 0, 0, 0, 0));
+    /* round 1,000 and all its deliveries with 32 messages in flight */
+    scene_fill(other, x, x);
+    scene_round(slot, last, q);
+    scene_each_round(slot, q);
+    put(make(ASK, x, 0, 0, handle_of(&t, slot), 0, 0));
+    put(make(DROP, 0, 0, (int)lowest_call_of(other), 0, 0, 0));
+    struct answer asked = put(make(ASK, x, 0, 0, handle_of(&t, slot), 0, 0));
+    scene_deliver(asked.value);
+    scene_deliver(asked.value);
+    if (!stays_open) {
+        on_handle(CLOSE, slot);
+        struct answer told = put(make(TELL, x, 0, 0, handle_of(&t, slot), 0, 0));
+        scene_deliver(told.value);
+    }
+    scene_empty(other);
+    scene_each_round(slot, q);
+    if (at_the_end) {
+        next_step_at(home, CLOCK_MAX);
+        scene_each_round(slot, q);
+        put(make(TICK, home, 0, 0, 0, 1, 0));
+        scene_each_round(slot, q);
+        return;
+    }
+    on_handle(ABORT, slot);
+    scene_each_round(slot, q);
+    put(make(CRASH, home, 0, 0, 0, 0, 0));
+    scene_each_round(slot, q);
+    put(make(RECOVER, home, 0, 0, 0, 0, 0));
+    next_step_at(home, t.visit[home][slot].r);
+    put(make(SWEEP, home, 0, 0, 0, 0, 0));
+    scene_each_round(slot, q);
 }
 
 /* How often a step, or a kind of delivery, was the one that brought a clock to 2,000,000,000. */

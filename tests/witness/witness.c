@@ -3,7 +3,7 @@
  * It reads a sheet from standard input and prints the listing to standard output.
  * It was written from document 01, in place and by ordinary means: a struct of tables, one function per step, a switch over the sixteen codes.
  * docs/WITNESS.md says what it is for, and how it reads the places where document 01 is silent.
- * Comments in "double quotes" are sentences of document 01.
+ * Comments in "double quotes" are sentences of document 01. Where request a of document 02 changes one, its words stand there too, after its name.
  *
  *   witness < SHEET            prints the listing
  *   witness --pairs < SHEET    the same, and on standard error how often each pair of step and refusal number occurred
@@ -425,8 +425,13 @@ static bool is_in_range(const struct record *r)
 #define WHY_7 "the clock would pass 2,000,000,000"
 #define WHY_8_Q "clock >= Q"
 #define WHY_8_DEAD "visit dead"
-#define WHY_11_FULL "no empty message slot"
-#define WHY_11_ROUND "round number at 1,000"
+
+/* "no empty message slot (invoke, ask, tell); call count (sent for invoke, received for a delivered call) or round number (steps that open a round) at 1,000" was all 11.
+ * Request a: "Keep 11 for a full message table. The call counts, sent or received, and the round number get their own. Refusals: 13 call count at 1,000, 14 round number at 1,000; both stand after 11, so a full table is named first." */
+#define WHY_11 "no empty message slot"
+#define WHY_13_SENT "call count (sent) at 1,000"
+#define WHY_13_RECEIVED "call count (received) at 1,000"
+#define WHY_14 "round number at 1,000"
 
 /* "tick a=site, u=n, 1..1,000,000. Value: the clock." */
 static struct answer tick(struct tables *t, const struct record *r)
@@ -467,7 +472,8 @@ static struct answer begin(struct tables *t, const struct record *r)
     return accept(handle_of(t, r->b));
 }
 
-/* "invoke h, a=site, b=0 read or 1 write, c=object, u=value (0 for read). The visit counts one call sent to the object's site; a call goes out with the visit's Q, R and round. Value: message slot." */
+/* "invoke h, a=site, b=0 read or 1 write, c=object, u=value (0 for read). The visit counts one call sent to the object's site; a call goes out with the visit's Q, R and round. Value: message slot."
+ * Request a: "a full table is named first", so 11 is tried before 13. The count that 13 looks at is the one that would grow. */
 static struct answer invoke(struct tables *t, const struct record *r)
 {
     struct site *site = &t->site[r->a];
@@ -488,9 +494,9 @@ static struct answer invoke(struct tables *t, const struct record *r)
     if (visit->dead)
         return refuse(8, WHY_8_DEAD);
     if (m == MESSAGES)
-        return refuse(11, WHY_11_FULL);
+        return refuse(11, WHY_11);
     if (visit->sent[there] >= CALLS_MAX)
-        return refuse(11, "call count (sent) at 1,000");
+        return refuse(13, WHY_13_SENT);
     site->clock = clock;
     visit->sent[there]++;
     struct message *message = &t->message[m];
@@ -510,6 +516,7 @@ static struct answer invoke(struct tables *t, const struct record *r)
 }
 
 /* "refresh [...] terminate [...] prepare [...]. Each opens a round, number one higher, phase 1, and does its phase 1 part at home. Value: round."
+ * Request a: "14 round number at 1,000". A round makes no message, so 11 is not tried.
  * The kept figures and the answers of the round before are cleared, then home's own go in. */
 static struct answer open_round(struct tables *t, const struct record *r, enum kind kind)
 {
@@ -532,7 +539,7 @@ static struct answer open_round(struct tables *t, const struct record *r, enum k
     if (clock > CLOCK_MAX)
         return refuse(7, WHY_7);
     if (passage->round.number >= ROUND_MAX)
-        return refuse(11, WHY_11_ROUND);
+        return refuse(14, WHY_14);
     site->clock = clock;
     uint16_t number = (uint16_t)(passage->round.number + 1);
     struct round *round = &passage->round;
@@ -603,7 +610,7 @@ static struct answer ask(struct tables *t, const struct record *r)
     if (clock > CLOCK_MAX)
         return refuse(7, WHY_7);
     if (m == MESSAGES)
-        return refuse(11, WHY_11_FULL);
+        return refuse(11, WHY_11);
     site->clock = clock;
     round_message(t, m, PHASE_1, r, passage)->new_r = passage->round.new_r;
     return accept((uint32_t)m);
@@ -654,7 +661,7 @@ static struct answer tell(struct tables *t, const struct record *r)
     if (clock > CLOCK_MAX)
         return refuse(7, WHY_7);
     if (m == MESSAGES)
-        return refuse(11, WHY_11_FULL);
+        return refuse(11, WHY_11);
     site->clock = clock;
     round_message(t, m, PHASE_2, r, passage)->new_q_or_m = phase_2_number(&passage->round);
     return accept((uint32_t)m);
@@ -685,7 +692,8 @@ static struct answer abort_passage(struct tables *t, const struct record *r)
     return accept(0);
 }
 
-/* "Delivered call. With a visit: its own Q, R and round stay. Without: one is made from the message's Q, R and round, no calls sent, no marks. Received grows by 1. The object is taken if unheld, then read or written. Value: the object's value before the operation." */
+/* "Delivered call. With a visit: its own Q, R and round stay. Without: one is made from the message's Q, R and round, no calls sent, no marks. Received grows by 1. The object is taken if unheld, then read or written. Value: the object's value before the operation."
+ * Request a: "13 call count at 1,000". A call that is delivered needs no new slot, so 11 is not tried. It stood after 10, and 13 stands there. */
 static struct answer deliver_call(struct tables *t, int m, uint32_t clock)
 {
     const struct message *message = &t->message[m];
@@ -703,7 +711,7 @@ static struct answer deliver_call(struct tables *t, int m, uint32_t clock)
     if (object->holder != NOBODY && object->holder != slot)
         return refuse(10, "delivered call: object held by another passage");
     if (visit->there && visit->received >= CALLS_MAX)
-        return refuse(11, "call count (received) at 1,000");
+        return refuse(13, WHY_13_RECEIVED);
     t->site[message->destination].clock = clock;
     if (!visit->there) {
         memset(visit, 0, sizeof *visit);
@@ -788,7 +796,8 @@ static struct answer deliver_answer(struct tables *t, int m, uint32_t clock)
     return accept(0);
 }
 
-/* "deliver c=message." "After 20, 1 and 2, deliver tries 3, 4, 6, 7, 8, 9, 10, 11." */
+/* "deliver c=message." "After 20, 1 and 2, deliver tries 3, 4, 6, 7, 8, 9, 10, 11."
+ * Request a: "13 call count at 1,000" takes the place of that 11, so deliver tries 3, 4, 6, 7, 8, 9, 10, 13. */
 static struct answer deliver(struct tables *t, const struct record *r)
 {
     const struct message *message = &t->message[r->c];
@@ -1003,7 +1012,7 @@ static const char *const met_name[NOT_A_DELIVERY] = {
     "call", "refresh-1", "terminate-1", "prepare-1", "refresh-2", "terminate-2", "prepare-2", "answer", "empty"
 };
 
-enum { NUMBERS = 21, LINES = 256, EDGES = 12 };
+enum { NUMBERS = 21, LINES = 256, EDGES = 16 };
 
 /* How often each pair occurred in this sheet; and each reason for a refusal, and each edge, under its name and the number that was given. */
 static struct {
@@ -1031,6 +1040,128 @@ static void count_line(const char *sort, const char *name, int number, const cha
         tally.line[tally.lines++] = fresh;
     }
     tally.line[i].count++;
+}
+
+static int messages_in_flight(const struct tables *t)
+{
+    int count = 0;
+    for (int m = 0; m < MESSAGES; m++)
+        count += t->message[m].kind != EMPTY;
+    return count;
+}
+
+/* The edges of the count that invoke tries. n are there already; gives how many there are then. */
+static int edges_of_sent(const struct tables *t, const struct record *r, uint32_t clock, const char *edge[EDGES], int n)
+{
+    int slot = slot_of(r->h), to = site_of_object(r->c), flying = messages_in_flight(t);
+    const struct visit *visit = &t->visit[r->a][slot];
+    bool away = r->a != t->passage[slot].home;
+    if (visit->sent[to] == CALLS_MAX - 1) {
+        edge[n++] = "call 1,000 sent";
+        if (away)
+            edge[n++] = "call 1,000 sent, away from home";
+        if (flying == MESSAGES - 1)
+            edge[n++] = "call 1,000 sent, as message 32";
+        if (flying == MESSAGES)
+            edge[n++] = "call 1,000 sent, as message 33";
+        return n;
+    }
+    if (visit->sent[to] == CALLS_MAX) {
+        edge[n++] = "call 1,001 sent";
+        if (away)
+            edge[n++] = "call 1,001 sent, away from home";
+        if (flying == MESSAGES - 1)
+            edge[n++] = "call 1,001 sent, as message 32";
+        if (flying == MESSAGES)
+            edge[n++] = "call 1,001 sent, as message 33";
+        if (clock + 1 == visit->q)
+            edge[n++] = "call 1,001 sent, at Q - 1";
+        if (clock == visit->q)
+            edge[n++] = "call 1,001 sent, at Q";
+        return n;
+    }
+    /* counts at 1,000 that are not the one tried */
+    bool to_another = false, from_another = false, of_another = false;
+    for (int s = 0; s < SITES; s++) {
+        to_another |= visit->sent[s] == CALLS_MAX;
+        from_another |= t->visit[s][slot].sent[to] == CALLS_MAX;
+    }
+    for (int s = 0; s < SLOTS; s++)
+        of_another |= t->visit[r->a][s].sent[to] == CALLS_MAX;
+    if (visit->received == CALLS_MAX)
+        edge[n++] = "1,000 calls received at the acting site";
+    if (to_another)
+        edge[n++] = "1,000 calls sent to another site";
+    if (from_another)
+        edge[n++] = "1,000 calls sent there from another site";
+    if (of_another)
+        edge[n++] = "1,000 calls sent there by another passage";
+    return n;
+}
+
+/* The edges of the count that a delivered call tries. */
+static int edges_of_received(const struct tables *t, const struct message *message, uint32_t clock, const char *edge[EDGES], int n)
+{
+    int slot = slot_of(message->handle), holder = t->object[message->object].holder;
+    const struct visit *visit = &t->visit[message->destination][slot];
+    bool held = holder != NOBODY && holder != slot;
+    if (visit->received == CALLS_MAX - 1) {
+        edge[n++] = "call 1,000 received";
+        if (held)
+            edge[n++] = "call 1,000 received, object held by another passage";
+        return n;
+    }
+    if (visit->received == CALLS_MAX) {
+        edge[n++] = "call 1,001 received";
+        if (holder == NOBODY)
+            edge[n++] = "call 1,001 received, object unheld";
+        if (held)
+            edge[n++] = "call 1,001 received, object held by another passage";
+        if (messages_in_flight(t) == MESSAGES)
+            edge[n++] = "call 1,001 received, 32 messages in flight";
+        if (clock + 1 == visit->q)
+            edge[n++] = "call 1,001 received, at the visit's Q - 1";
+        if (clock == visit->q)
+            edge[n++] = "call 1,001 received, at the visit's Q";
+        return n;
+    }
+    /* counts at 1,000 that are not the one tried */
+    bool sent = false, at_another = false, of_another = false;
+    for (int s = 0; s < SITES; s++) {
+        sent |= visit->sent[s] == CALLS_MAX;
+        at_another |= t->visit[s][slot].received == CALLS_MAX;
+    }
+    for (int s = 0; s < SLOTS; s++)
+        of_another |= t->visit[message->destination][s].received == CALLS_MAX;
+    if (sent)
+        edge[n++] = "1,000 calls sent from there";
+    if (at_another)
+        edge[n++] = "1,000 calls received at another site";
+    if (of_another)
+        edge[n++] = "1,000 calls received there by another passage";
+    return n;
+}
+
+/* The edges of the round number that refresh, terminate and prepare try. */
+static int edges_of_round(const struct tables *t, const struct record *r, uint32_t clock, const char *edge[EDGES], int n)
+{
+    uint16_t number = t->passage[slot_of(r->h)].round.number;
+    bool full = messages_in_flight(t) == MESSAGES;
+    if (number == ROUND_MAX - 1) {
+        edge[n++] = "round 1,000";
+        if (full)
+            edge[n++] = "round 1,000, 32 messages in flight";
+    }
+    if (number == ROUND_MAX) {
+        edge[n++] = "round 1,001";
+        if (full)
+            edge[n++] = "round 1,001, 32 messages in flight";
+        if (clock == CLOCK_MAX)
+            edge[n++] = "round 1,001, clock 2,000,000,000";
+        if (clock == CLOCK_MAX + 1)
+            edge[n++] = "round 1,001, clock 2,000,000,001";
+    }
+    return n;
 }
 
 /* The edges at which a record stands, read from the tables before it is run. Gives how many there are. */
@@ -1085,15 +1216,11 @@ static int edges_of(const struct tables *t, const struct record *r, const char *
     if (r->code == BEGIN && clock == r->u)
         edge[n++] = "at Q";
     if (r->code == INVOKE && visit->there) {
-        uint16_t sent = visit->sent[site_of_object(r->c)];
         if (clock + 1 == visit->q)
             edge[n++] = "at Q - 1";
         if (clock == visit->q)
             edge[n++] = "at Q";
-        if (sent == CALLS_MAX - 1)
-            edge[n++] = "call 1,000 sent";
-        if (sent == CALLS_MAX)
-            edge[n++] = "call 1,001 sent";
+        n = edges_of_sent(t, r, clock, edge, n);
     }
     if (delivery && message->kind == CALL) {
         uint32_t q = visit->there ? visit->q : message->q;
@@ -1101,15 +1228,12 @@ static int edges_of(const struct tables *t, const struct record *r, const char *
             edge[n++] = visit->there ? "at the visit's Q - 1" : "at the message's Q - 1";
         if (clock == q)
             edge[n++] = visit->there ? "at the visit's Q" : "at the message's Q";
-        if (visit->received == CALLS_MAX - 1)
-            edge[n++] = "call 1,000 received";
-        if (visit->received == CALLS_MAX)
-            edge[n++] = "call 1,001 received";
+        n = edges_of_received(t, message, clock, edge, n);
     }
-    if (opens && t->passage[slot].round.number == ROUND_MAX - 1)
-        edge[n++] = "round 1,000";
-    if (opens && t->passage[slot].round.number == ROUND_MAX)
-        edge[n++] = "round 1,001";
+    if (opens)
+        n = edges_of_round(t, r, clock, edge, n);
+    if (delivery && messages_in_flight(t) == MESSAGES)
+        edge[n++] = "32 messages in flight";
     if (r->code == INVOKE || r->code == ASK || r->code == TELL) {
         if (lowest_empty_message(t) == MESSAGES - 1)
             edge[n++] = "message 32";
