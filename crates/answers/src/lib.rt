@@ -1,4 +1,4 @@
-// The number and the value of an answer, as document 01 gives them.
+// The number and the value of an answer, as documents 01 and 02 give them.
 use rules::outcomes::Answer;
 use rules::outcomes::Refusal;
 ghost use mathlib.Core.Path.{_≡_};
@@ -21,6 +21,8 @@ pub fn refusal_number(r: Refusal) -> u64
         Refusal::Held => 10,
         Refusal::Full => 11,
         Refusal::NotClosed => 12,
+        Refusal::NoCallLeft => 13,
+        Refusal::NoRoundLeft => 14,
     }
 }
 

@@ -87,7 +87,7 @@ pub fn deliver_call(m: u8, call: Call, seen: Seen) -> Decision
         tried,
         refuse(Refusal::Held, is_held_by_other(mail_slot(seen), object)),
     );
-    let tried = or_else(tried, refuse(Refusal::Full, COUNT_MOST <= v.received));
+    let tried = or_else(tried, refuse(Refusal::NoCallLeft, COUNT_MOST <= v.received));
     let left = called(call, clock, seen);
     settle(tried, object.value as u64, left, seen)
 }

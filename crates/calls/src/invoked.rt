@@ -110,10 +110,8 @@ pub fn invoke(
         tried,
         refuse(Refusal::Quiesced, (v.quiesce as u64 <= clock) | v.dead),
     );
-    let tried = or_else(
-        tried,
-        refuse(Refusal::Full, is_full(seen) | is_sent_out(object, v)),
-    );
+    let tried = or_else(tried, refuse(Refusal::Full, is_full(seen)));
+    let tried = or_else(tried, refuse(Refusal::NoCallLeft, is_sent_out(object, v)));
     let left = invoked(h, site, call_of(write, object, value, v), clock, seen);
     settle(tried, place as u64, left, seen)
 }

@@ -90,7 +90,10 @@ fn open(h: u16, kind: Kind, bad: bool, wrong: bool, seen: Seen) -> Decision
     let tried = or_else(tried, refuse(Refusal::WrongState, wrong));
     let tried = or_else(tried, visit_missing(seen));
     let tried = or_else(tried, clock_full(clock));
-    let tried = or_else(tried, refuse(Refusal::Full, COUNT_MOST <= round.number));
+    let tried = or_else(
+        tried,
+        refuse(Refusal::NoRoundLeft, COUNT_MOST <= round.number),
+    );
     let left = opened(kind, clock, seen);
     settle(tried, number as u64, left, seen)
 }

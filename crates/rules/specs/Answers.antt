@@ -4,7 +4,7 @@ use mathlib.Core.Bool.{Bool, true, false, cond}
 use mathlib.Core.List.{List, [], _∷_}
 use Rattle.rules.specs.Types.{Refusal, Answer, Check, Seen, Decision}
 
--- "Refusal numbers, in the order they are tried"
+-- "Refusal numbers, in the order they are tried". Request a of document 02: "13 call count at 1,000, 14 round number at 1,000; both stand after 11"
 abbrev pub refusalNumber : Refusal → ℕ
 refusalNumber Refusal.OutOfRange = 20
 refusalNumber Refusal.NoStep = 1
@@ -19,6 +19,8 @@ refusalNumber Refusal.WrongRound = 9
 refusalNumber Refusal.Held = 10
 refusalNumber Refusal.Full = 11
 refusalNumber Refusal.NotClosed = 12
+refusalNumber Refusal.NoCallLeft = 13
+refusalNumber Refusal.NoRoundLeft = 14
 
 -- "Accepted is number 0."
 abbrev pub answerNumber : Answer → ℕ

@@ -19,7 +19,7 @@ abbrev byNumber : List Refusal
 byNumber =
     Refusal.NoStep ∷ Refusal.BadField ∷ Refusal.NotThere ∷ Refusal.SiteDown ∷ Refusal.WrongState
     ∷ Refusal.NoVisit ∷ Refusal.ClockFull ∷ Refusal.Quiesced ∷ Refusal.WrongRound ∷ Refusal.Held
-    ∷ Refusal.Full ∷ Refusal.NotClosed ∷ []
+    ∷ Refusal.Full ∷ Refusal.NotClosed ∷ Refusal.NoCallLeft ∷ Refusal.NoRoundLeft ∷ []
 
 -- a number is a refusal's own
 record Numbered (r : Refusal) : Type 0 where
@@ -40,6 +40,8 @@ numbered Refusal.WrongRound = record { back = refl; above = omega arith }
 numbered Refusal.Held = record { back = refl; above = omega arith }
 numbered Refusal.Full = record { back = refl; above = omega arith }
 numbered Refusal.NotClosed = record { back = refl; above = omega arith }
+numbered Refusal.NoCallLeft = record { back = refl; above = omega arith }
+numbered Refusal.NoRoundLeft = record { back = refl; above = omega arith }
 
 -- no refusal has number 0, which is that of an accepted step
 pub refusal-not-zero : (r : Refusal) → refusalNumber r ≢ 0
@@ -94,6 +96,10 @@ pub record Fine (cs : List Check) : Type 0 where
   pub room : holdsOf Refusal.Full cs ≡ false
   -- 12
   pub closed : holdsOf Refusal.NotClosed cs ≡ false
+  -- 13
+  pub calls : holdsOf Refusal.NoCallLeft cs ≡ false
+  -- 14
+  pub rounds : holdsOf Refusal.NoRoundLeft cs ≡ false
 
 none-gives : (r : Refusal) (cs : List Check) → Clear cs → holdsOf r cs ≡ false
 none-gives r [] f = refl
@@ -115,6 +121,8 @@ clear-fine cs f =
       unheld = none-gives Refusal.Held cs f;
       room = none-gives Refusal.Full cs f;
       closed = none-gives Refusal.NotClosed cs f;
+      calls = none-gives Refusal.NoCallLeft cs f;
+      rounds = none-gives Refusal.NoRoundLeft cs f;
     }
 
 accepted-clear : (cs : List Check) (v : ℕ) → isAccepted (firstOf cs v) ≡ true → Clear cs

@@ -25,11 +25,11 @@ badCall h site write object value =
     badHandle h || badSite site || ltb 1 write || ltb objectMost object || ltb widthMost value
     || (eqb write 0 && not (eqb value 0))
 
--- 11: "call count (sent for invoke ..) at 1,000"
+-- 13: "call count at 1,000", of the calls sent to the object's site by the visit at the acting site
 abbrev pub isSentOut : ℕ → Visit → Bool
 isSentOut object v = leb countMost (getD (v .sent) (callSite object) 0)
 
--- 8: "invoke ..: clock ≥ Q ..; invoke ..: visit dead". 11: "no empty message slot ..; call count (sent for invoke ..) .. at 1,000"
+-- 8: "invoke ..: clock ≥ Q ..; invoke ..: visit dead". 13 stands "after 11, so a full table is named first"
 abbrev pub invokeChecks : ℕ → ℕ → ℕ → ℕ → ℕ → Seen → List Check
 invokeChecks h site write object value seen =
     refuse Refusal.BadField (badCall h site write object value) ∷ noPassage h seen ∷ siteDown seen
@@ -38,9 +38,8 @@ invokeChecks h site write object value seen =
     ∷ refuse
     Refusal.Quiesced
     (leb (seen .visit .quiesce) (nextClock (seen .site)) || seen .visit .dead)
-    ∷ refuse
-    Refusal.Full
-    (isFull seen || isSentOut object (seen .visit))
+    ∷ refuse Refusal.Full (isFull seen)
+    ∷ refuse Refusal.NoCallLeft (isSentOut object (seen .visit))
     ∷ []
 
 -- "a call goes out with the visit's Q, R and round"
@@ -74,7 +73,7 @@ unfoldable pub invokeOf : ℕ → ℕ → ℕ → ℕ → ℕ → ℕ → Seen �
 invokeOf h site write object value place seen =
     settleOf (invokeDone h site write object value place seen) seen
 
--- ---- 11. deliver c=message. "After 20, 1 and 2, deliver tries 3, 4, 6, 7, 8, 9, 10, 11."
+-- ---- 11. deliver c=message. "After 20, 1 and 2, deliver tries 3, 4, 6, 7, 8, 9, 10, 11." Since request a its last is 13.
 -- The clock moves to 1 + max(clock, stamp); "handle (only its slot is looked at)".
 
 abbrev pub mailClock : Seen → ℕ
@@ -106,7 +105,7 @@ calledVisit c v = cond (v .there) v (newVisit (c .quiesce) (c .release) (c .roun
 abbrev pub calledObject : Call → Seen → Object
 calledObject c seen = getD (seen .objects) (c .object % 4) pastObject
 
--- 8: "delivered call: clock ≥ Q (.. the visit's, else the message's) ..: visit dead". 10: "object held by another passage". 11: "received for a delivered call"
+-- 8: "delivered call: clock ≥ Q (.. the visit's, else the message's) ..: visit dead". 10: "object held by another passage". 13: "call count at 1,000", of the calls received
 abbrev pub callChecks : ℕ → Call → Seen → List Check
 callChecks m c seen =
     refuse Refusal.BadField (badMessage m) ∷ siteDown seen ∷ clockFull (mailClock seen)
@@ -115,7 +114,7 @@ callChecks m c seen =
     (leb (calledVisit c (seen .visit) .quiesce) (mailClock seen)
     || calledVisit c (seen .visit) .dead)
     ∷ refuse Refusal.Held (isHeldByOther (mailSlot seen) (calledObject c seen))
-    ∷ refuse Refusal.Full (leb countMost (calledVisit c (seen .visit) .received))
+    ∷ refuse Refusal.NoCallLeft (leb countMost (calledVisit c (seen .visit) .received))
     ∷ []
 
 -- "Received grows by 1. The object is taken if unheld, then read or written."

@@ -47,6 +47,6 @@ visitMissing seen = refuse Refusal.NoVisit (not (seen .visit .there))
 abbrev pub clockFull : ℕ → Check
 clockFull clock = refuse Refusal.ClockFull (ltb clockMost clock)
 
--- 11: "no empty message slot": the slot that was looked at as the lowest empty one is not empty
+-- 11: "no empty message slot", and since request a nothing else: the slot that was looked at as the lowest empty one is not empty
 abbrev pub isFull : Seen → Bool
 isFull seen = not (isEmpty (seen .message .body))

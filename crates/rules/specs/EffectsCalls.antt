@@ -2,11 +2,10 @@
 use Prim.Native.Nat.{ℕ, _%_, _≤_, _<_}
 use native.Mathlib.Omega.{arith}
 use mathlib.Core.Path.{_≡_, refl, ap, _∙_}
-use mathlib.Core.Bool.{true, false, not, _&&_}
+use mathlib.Core.Bool.{true, false}
 use mathlib.Core.List.{List}
-use lib.Dec.{ltb, eqb}
 use lib.ListN.{getD}
-use borrow.Author.Tests.{leb-false, ltb-false, eqb-true, eq-eqb}
+use borrow.Author.Tests.{leb-false, ltb-false}
 use Rattle.rules.specs.Types.{Visit, Call, Body, Message, Tables, Step, Answer, Check, MailAt, Places, Seen}
 use Rattle.rules.specs.Limits.{widthMost, countMost}
 use Rattle.rules.specs.LoopsLaws.{not-false}
@@ -14,12 +13,13 @@ use Rattle.rules.specs.Tables.{siteAt, objectAt, passageAt, visitAt, mes
 use Rattle.rules.specs.Ranges.{inRange}
 use Rattle.rules.specs.Answers.{isAccepted, firstOf, settleOf}
 use Rattle.rules.specs.Parts.{nextClock, deliveryClock, countSent, countReceived, isHeldByOther, taken, operated, plainMessage}
-use Rattle.rules.specs.Checks.{badSite, badHandle, badMessage}
-use Rattle.rules.specs.Calls.{callSite, isSentOut, invokeChecks, callOf, invoked, invokeOf, mailClock, calledVisit, calledObject, callChecks, called, deliverCallOf, deliverBodyOf}
+use Rattle.rules.specs.Checks.{badMessage}
+use Rattle.rules.specs.Calls.{callSite, invokeChecks, callOf, invoked, invokeOf, mailClock, calledVisit, calledObject, callChecks, called, deliverCallOf, deliverBodyOf}
 use Rattle.rules.specs.Machine.{lookOf, bodyBank, placesOf, seenOf, decideOf, stepOf}
 use Rattle.rules.specs.StoredLaws.{Sized}
 use Rattle.rules.specs.StoredObjects.{seen-object}
 use Rattle.rules.specs.RangesLaws.{neither}
+use Rattle.rules.specs.FineLaws.{CallFields, call-fields}
 use Rattle.rules.specs.RangesFits.{CallFits, call-range-says, MessageFits}
 use Rattle.rules.specs.SettledLaws.{delivered-named}
 use Rattle.rules.specs.EffectsLaws.{OnlyVisit, OnlyMessage, OnlyObject, ClockMoves, accepted-in-range, accepted-decided, Done, done-at, only-visit, only-message, only-object, passages-stay, objects-stay, clock-moves}
@@ -60,30 +60,25 @@ module _ (t : Tables) (h site write object width v : ℕ) (z : Sized t)
 
   pub invoke-effects : Invoked t (stepOf t (Step.Invoke h site write object width) .tables) h (slotOf h) site write object width v
   invoke-effects =
-      neither {b = eqb write 0 && not (eqb width 0)} (invoke-done _ refl .fine .fields) λ e w.
-      neither {b = ltb widthMost width} e λ e x.
-      neither {b = ltb 31 object} e λ e o.
-      neither {b = ltb 1 write} e λ e k.
-      neither {a = badHandle h} {b = badSite site} e λ b s.
-      let below : object < 32 = omega (arith, ltb-false) in
+      let g : CallFields h site write object width = call-fields h site write object width (invoke-done _ refl .fine .fields) in
+      let below : object < 32 = omega arith in
       let c : objectSite object % 8 ≡ objectSite object = omega arith in
-      let d = invoke-done _ (given-places t MailAt.Empty h site (omega (arith, ltb-false))) in
+      let d = invoke-done _ (given-places t MailAt.Empty h site (omega arith)) in
       let u : Visit = visitAt t site (slotOf h) in
       neither (d .fine .early) λ q n.
-      neither {b = isSentOut object u} (d .fine .room) λ f r.
       record {
-        names = in-use h _ b (d .fine .found);
-        kind = ltb-false _ _ k;
+        names = in-use h _ (g .named) (d .fine .found);
+        kind = g .kind;
         below = below;
-        fits = ltb-false _ _ x;
-        plain = λ y. eqb-true _ _ (not-false _ (rw (eq-eqb write 0 y) at w));
+        fits = g .fits;
+        plain = g .plain;
         there = not-false _ (d .fine .there);
         early = leb-false _ _ q;
         alive = n;
-        room = rw c at (leb-false countMost (getD (u .sent) (callSite object) 0) r);
+        room = rw c at (leb-false countMost (getD (u .sent) (callSite object) 0) (d .fine .calls));
         clock = clock-moves d _ refl (d .fine .up) (d .fine .clock);
         visit = rw c at (only-visit d);
-        message = rw c at (new-message d refl (d .value) f);
+        message = rw c at (new-message d refl (d .value) (d .fine .room));
         passages = passages-stay d refl;
         objects = objects-stay d refl;
       }
@@ -162,7 +157,7 @@ call-delivered-effects t m v c z e a =
       early = leb-false _ _ q;
       alive = n;
       unheld = rw o at (d .fine .unheld);
-      room = leb-false _ _ (d .fine .room);
+      room = leb-false _ _ (d .fine .calls);
       value = rw o at (d .value);
       clock = clock-moves d _ refl (d .fine .up) (d .fine .clock);
       visit = only-visit d;

@@ -23,6 +23,7 @@ pub mod Record
 pub mod SettledLaws
 pub mod RefusedLaws
 pub mod TwentyLaws
+pub mod SaidLaws
 pub mod RecordLaws
 pub mod RangesLaws
 pub mod RangesFits

@@ -4,13 +4,13 @@ use Prim.Native.Nat.{ℕ, zero, suc, _+_, _%_, _≤_, _<_}
 use native.Mathlib.Omega.{arith}
 use mathlib.Core.Path.{_≡_, refl, sym, _∙_}
 use mathlib.Core.Logic.{⊎-elim}
-use mathlib.Core.Bool.{Bool, true, false, cond, not, _&&_, _||_}
+use mathlib.Core.Bool.{Bool, true, false, cond, _||_}
 use mathlib.Core.List.{List, [], _∷_}
-use lib.Dec.{leb, ltb, eqb}
+use lib.Dec.{leb, ltb}
 use lib.ListN.{getD}
 use borrow.Author.Tests.{leb-true, le-leb, ltb-false}
 use Rattle.rules.specs.Types.{Site, Kind, Phase, Call, Asked, Told, Body, Tables, Step, Reading, Refusal, Answer, Check, Trip, Places, Seen, Outcome, Found}
-use Rattle.rules.specs.Limits.{clockMost, timeMost, widthMost, countMost}
+use Rattle.rules.specs.Limits.{clockMost, timeMost, countMost}
 use Rattle.rules.specs.Loops.{everyUpTo}
 use Rattle.rules.specs.LoopsLaws.{or-right, not-false, either, cond-keeps}
 use Rattle.rules.specs.Tables.{pastObject, start}
@@ -24,7 +24,7 @@ use Rattle.rules.specs.Stations.{tickOf, sweepOf, sweptSlot, crashOf, cr
 use Rattle.rules.specs.Passages.{beginOf, abortOf, retireOf}
 use Rattle.rules.specs.Rounds.{openedVisit, openOf, refreshOf, terminateOf, prepareOf, sentOut, askOf, closeOf, tellOf}
 use Rattle.rules.specs.Calls.{callSite, callOf, invokeOf, mailClock, mailSlot, emptyOf, calledVisit, calledObject, callDone, deliverCallOf, deliverPhaseOneOf, deliverPhaseTwoOf, deliverAnswerOf, deliverBodyOf, dropOf}
-use Rattle.rules.specs.FineLaws.{invoke-count, call-count, open-count}
+use Rattle.rules.specs.FineLaws.{CallFields, call-fields, invoke-count, call-count, open-count}
 use Rattle.rules.specs.Machine.{lookOf, placesOf, seenOf, remains, decideOf, stored, headOf, turnSeen, turnOf, turnsUpTo, turnCount, stepInRangeOf, stepOf, foundOf}
 use Rattle.rules.specs.StoredLaws.{Placed, turn-stored}
 use Rattle.rules.specs.Record.{stepOfRecord, readingOf, recordInRangeOf, stepRecordOf}
@@ -130,11 +130,8 @@ module _ (seen : Seen) (b : SeenFits seen) where
       settled-fits _ _ _ λ f.
       let n : ltb clockMost (nextClock (seen .site)) ≡ false = f .clock in
       let k : getD (seen .visit .sent) (callSite object) 0 < countMost = invoke-count h site write object value seen f in
-      neither {b = eqb write 0 && not (eqb value 0)} (f .fields) λ e _.
-      neither {b = ltb widthMost value} e λ e v.
-      neither {b = ltb 31 object} e λ e o.
-      neither {b = ltb 1 write} e λ e _.
-      neither {a = badHandle h} {b = badSite site} e λ g s.
+      let g : CallFields h site write object value = call-fields h site write object value (f .fields) in
+      let y : badHandle h ≡ false = g .named in
       let c : Counts (countSent (seen .visit) (callSite object) .sent) =
       λ d l. set-keeps-at (λ (x : ℕ). x ≤ countMost) (seen .visit .sent) (callSite object) d _ 0 (b .visit .sent d l) (omega arith) in
       let call : bodyInRange (Body.Call (callOf write object value (seen .visit))) ≡ true =

@@ -15,13 +15,13 @@ use Rattle.rules.specs.Checks.{badSite, badHandle, badTimes, noPassage, 
 -- ---- 4. refresh h, u=Q, v=R. 5. terminate h. 6. prepare h.
 -- "Each opens a round, number one higher, phase 1, and does its phase 1 part at home. Value: round."
 
--- what the three share: which field is bad and which status is wrong is the step's own
+-- what the three share: which field is bad and which status is wrong is the step's own. 14: "round number at 1,000"
 abbrev pub openChecks : ℕ → Bool → Bool → Seen → List Check
 openChecks h bad wrong seen =
     refuse Refusal.BadField bad ∷ noPassage h seen ∷ siteDown seen ∷ refuse Refusal.WrongState wrong
     ∷ visitMissing seen
     ∷ clockFull (nextClock (seen .site))
-    ∷ refuse Refusal.Full (leb countMost (seen .passage .round .number))
+    ∷ refuse Refusal.NoRoundLeft (leb countMost (seen .passage .round .number))
     ∷ []
 
 -- the home visit after home's own phase 1 part

@@ -23,7 +23,7 @@ number-after-turn Trip.Nowhere slot o = refl
 number-after-turn (Trip.Sweep site) slot o = number-after-count (o .answer) _
 number-after-turn (Trip.Crash site) slot o = refl
 
-number-after-turns : (trip : Trip) (o : Outcome) (n : ℕ) → answerNumber (turnsUpTo trip o n .answer) ≡ answerNumber (o .answer)
+pub number-after-turns : (trip : Trip) (o : Outcome) (n : ℕ) → answerNumber (turnsUpTo trip o n .answer) ≡ answerNumber (o .answer)
 unfolding turnsUpTo
 number-after-turns trip o zero = refl
 number-after-turns trip o (suc n) = number-after-turn trip n (turnsUpTo trip o n) ∙ number-after-turns trip o n

@@ -2,7 +2,7 @@
 use crate::looking::Seen;
 use crate::tables::Tables;
 
-// The refusals in the order in which document 01 lists them. Their numbers are in specs/Answers.antt.
+// The refusals in the order in which documents 01 and 02 list them. Their numbers are in specs/Answers.antt.
 pub enum Refusal {
     OutOfRange,
     NoStep,
@@ -17,6 +17,8 @@ pub enum Refusal {
     Held,
     Full,
     NotClosed,
+    NoCallLeft,
+    NoRoundLeft,
 }
 
 pub enum Answer {

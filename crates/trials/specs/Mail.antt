@@ -63,16 +63,16 @@ lateRound =
     ∷ Step.Deliver 0 refusedBy 9
     ∷ []
 
--- the first n of these calls, each in the next message slot
-abbrev pub callsUpTo : ℕ → List Line
-callsUpTo zero = []
-callsUpTo (suc n) = callsUpTo n ++ (Step.Invoke 14 5 0 1 0 gives n ∷ [])
+-- this call n times, each in the next message slot
+abbrev pub callsUpTo : Step → ℕ → List Line
+callsUpTo call zero = []
+callsUpTo call (suc n) = callsUpTo call n ++ (call gives n ∷ [])
 
 -- home 5, slot 14: 32 calls to station 0 fill the table; a 33rd and a round's message are refused by 11 until a slot is empty
 abbrev pub fullTable : List Line
 fullTable =
     (Step.Begin 5 14 1000 1010 gives 14 ∷ [])  -- clock 5: 1
-    ++ callsUpTo 32  -- 2 to 33
+    ++ callsUpTo (Step.Invoke 14 5 0 1 0) 32  -- 2 to 33
     ++ (Step.Invoke 14 5 0 1 0 refusedBy 11 ∷ Step.Refresh 14 2000 2010 gives 1  -- 34
     ∷ Step.Ask 14 0 refusedBy 11
     ∷ Step.Deliver 31 gives 0  -- clock 0: 34
@@ -129,7 +129,7 @@ callWaits =
 abbrev pub twentyWait : List Line
 twentyWait =
     (Step.Begin 5 14 1000 1010 gives 14 ∷ [])  -- clock 5: 1
-    ++ callsUpTo 20  -- 2 to 21
+    ++ callsUpTo (Step.Invoke 14 5 0 1 0) 20  -- 2 to 21
     ++ (Step.Begin 3 2 60 70 gives 2  -- clock 3: 1
     ∷ Step.Invoke 2 3 1 8 880 gives 20  -- 2
     ∷ Step.Deliver 20 gives 0  -- clock 2: 3

@@ -1,5 +1,5 @@
--- The second table of cases, refusals: a field that no step has, a field out of range, a wrong state, the last clock, the full count.
--- The answers were worked out by hand from document 01; a clock beside a line is that of the acting station after it. Assumes nothing.
+-- The second table of cases, refusals: a field that no step has, a field out of range, a wrong state, the last clock, call and round.
+-- The answers were worked out by hand from documents 01 and 02; a clock beside a line is that of the acting station after it. Assumes nothing.
 use Prim.Native.Nat.{ℕ}
 use mathlib.Core.Bool.{true, false}
 use mathlib.Core.Path.{_≡_, refl}
@@ -8,6 +8,7 @@ use lib.ListN.{replicate, set}
 use Rattle.rules.specs.Tables.{start, noCounts, noRound, putSite, putPassage, putVisit}
 use Rattle.rules.specs.Rows.{Row, Line, _gives_, _refusedBy_, run, accepted, refused, linesOn, lines, clock, holder, status, generation, round, visit, unvisited, sent, mail, found, wanted}
 use Rattle.trials.specs.Types.{Holder, Kind, Phase, Status, Tables, Step}
+use Rattle.trials.specs.Mail.{callsUpTo}
 
 -- ---- 1, byte by byte: "code unknown, or an unnamed field isn't 0"
 
@@ -200,7 +201,7 @@ whichFirst =
     ∷ Step.Begin 0 3 100 200 refusedBy 4
     ∷ []
 
--- ---- 7, 11 and 5, on tables that are handed in
+-- ---- 7, 13, 14 and 5, on tables that are handed in
 
 -- the start, with another clock at a station
 abbrev pub startAt : ℕ → ℕ → Tables
@@ -221,9 +222,9 @@ lastClock =
     ∷ Step.Deliver 0 refusedBy 7
     ∷ []
 
--- an active passage in slot 3, home 2, one below 1,000 in its round, its calls sent to station 7 and its calls received
-abbrev pub nearlyFull : Tables
-nearlyFull =
+-- an active passage in slot 3, home 2, with this number as its round, its calls sent to station 7 and its calls received
+abbrev pub countsAt : ℕ → Tables
+countsAt n =
     putVisit
     (putPassage
     start
@@ -233,7 +234,7 @@ nearlyFull =
       home = 2;
       round =
           record {
-            number = 999;
+            number = n;
             kind = Kind.Prepare;
             phase = Phase.None;
             answered = 0;
@@ -247,23 +248,58 @@ nearlyFull =
       there = true;
       quiesce = 500;
       release = 600;
-      round = 999;
+      round = n;
       prepared = false;
       dead = false;
-      sent = set noCounts 7 999;
-      received = 999;
+      sent = set noCounts 7 n;
+      received = n;
     })
 
 abbrev pub lastCount : List Line
 lastCount =
     Step.Invoke 3 2 0 28 0 gives 0  -- clock 2: 1
-    ∷ Step.Invoke 3 2 0 28 0 refusedBy 11
+    ∷ Step.Invoke 3 2 0 28 0 refusedBy 13
     ∷ Step.Invoke 3 2 0 8 0 gives 1  -- 2
     ∷ Step.Invoke 3 2 0 8 0 gives 2  -- 3
     ∷ Step.Deliver 1 gives 0  -- 4
-    ∷ Step.Deliver 2 refusedBy 11
-    ∷ Step.Refresh 3 700 800 gives 1000  -- 5
-    ∷ Step.Prepare 3 refusedBy 11
+    ∷ Step.Deliver 2 refusedBy 13
+    -- the visit at station 7 has sent none
+    ∷ Step.Deliver 0 gives 0  -- clock 7: 2
+    ∷ Step.Invoke 3 7 0 28 0 gives 0  -- 3
+    ∷ Step.Refresh 3 700 800 gives 1000  -- clock 2: 5
+    ∷ Step.Refresh 3 700 800 refusedBy 14
+    ∷ Step.Prepare 3 refusedBy 14
+    -- active, in round 1,000
+    ∷ Step.Terminate 3 refusedBy 5
+    ∷ Step.Abort 3 gives 0  -- 6
+    ∷ Step.Terminate 3 refusedBy 14
+    ∷ []
+
+-- handed in with 1,000 calls sent: while the table is full that is what is named, and a late call is named before both
+abbrev pub fullFirst : List Line
+fullFirst =
+    callsUpTo (Step.Invoke 3 2 0 1 0) 32  -- clock 2: 1 to 32
+    ++ (Step.Invoke 3 2 0 28 0 refusedBy 11 ∷ Step.Drop 31 gives 0 ∷ Step.Invoke 3 2 0 28 0 refusedBy 13
+    ∷ Step.Invoke 3 2 0 1 0 gives 31  -- 33
+    ∷ Step.Tick 2 1000 gives 1033
+    ∷ Step.Invoke 3 2 0 28 0 refusedBy 8
+    ∷ Step.Drop 31 gives 0
+    ∷ Step.Invoke 3 2 0 28 0 refusedBy 8
+    ∷ [])
+
+-- handed in with 1,000 calls received: an object that passage 4 holds is named first, and a late call before both
+abbrev pub heldFirst : List Line
+heldFirst =
+    Step.Begin 2 4 500 600 gives 4  -- clock 2: 1
+    ∷ Step.Invoke 4 2 0 8 0 gives 0  -- 2
+    ∷ Step.Deliver 0 gives 0  -- 3
+    ∷ Step.Invoke 3 2 0 8 0 gives 0  -- 4
+    ∷ Step.Deliver 0 refusedBy 10
+    ∷ Step.Invoke 3 2 0 9 0 gives 1  -- 5
+    ∷ Step.Deliver 1 refusedBy 13
+    ∷ Step.Tick 2 1000 gives 1005
+    ∷ Step.Deliver 0 refusedBy 8
+    ∷ Step.Deliver 1 refusedBy 8
     ∷ []
 
 -- slot 9 is committed at home 4, in generation 255: handle 9 + 16 × 255
@@ -291,10 +327,6 @@ refusalRows =
     ∷ lines onTime (clock 5 20 ∷ clock 0 30 ∷ status 3 Status.Free ∷ generation 3 1 ∷ [])
     -- 8 and 10, 4 and 5
     ∷ lines whichFirst (clock 3 9 ∷ clock 0 1 ∷ holder 15 (Holder.Slot 3) ∷ unvisited 3 4 ∷ mail 1 1 ∷ [])
-    -- 7
-    ∷ linesOn (startAt 4 1999999998) lastClock (clock 4 2000000000 ∷ clock 3 2 ∷ [])
-    -- 11
-    ∷ linesOn nearlyFull lastCount (clock 2 5 ∷ visit 2 3 500 800 1000 1000 ∷ sent 2 3 (0 ∷ 0 ∷ 2 ∷ 0 ∷ 0 ∷ 0 ∷ 0 ∷ 1000 ∷ []) ∷ [])
     -- generation 255 is followed by 0
     ∷ linesOn
     lastGeneration
@@ -306,7 +338,29 @@ refusalRows =
     ∷ linesOn (nothingLeft Status.Aborted) (Step.Retire 57 gives 0 ∷ []) (generation 9 4 ∷ [])
     ∷ []
 
--- every refusal is as document 01 says
+abbrev pub limitRows : List Row
+limitRows =
+    -- 7
+    linesOn (startAt 4 1999999998) lastClock (clock 4 2000000000 ∷ clock 3 2 ∷ [])
+    -- 13 and 14
+    ∷ linesOn (countsAt 999) lastCount
+    (clock 2 6 ∷ clock 7 3 ∷ visit 2 3 6 800 1000 1000 ∷ sent 2 3 (0 ∷ 0 ∷ 2 ∷ 0 ∷ 0 ∷ 0 ∷ 0 ∷ 1000 ∷ []) ∷ mail 2 1 ∷ [])
+    ∷ linesOn (countsAt 999) (Step.Prepare 3 gives 1000 ∷ Step.Prepare 3 refusedBy 14 ∷ []) (clock 2 1 ∷ round 3 1000 Phase.One ∷ [])
+    ∷ linesOn
+    (countsAt 999)
+    (Step.Abort 3 gives 0 ∷ Step.Terminate 3 gives 1000 ∷ Step.Terminate 3 refusedBy 14 ∷ [])
+    (clock 2 2 ∷ round 3 1000 Phase.One ∷ [])
+    -- 11 before 13
+    ∷ linesOn (countsAt 1000) fullFirst (clock 2 1033 ∷ sent 2 3 (33 ∷ 0 ∷ 0 ∷ 0 ∷ 0 ∷ 0 ∷ 0 ∷ 1000 ∷ []) ∷ mail 30 1 ∷ mail 31 0 ∷ [])
+    -- 10 before 13
+    ∷ linesOn (countsAt 1000) heldFirst (clock 2 1005 ∷ visit 2 3 500 600 1000 1000 ∷ holder 8 (Holder.Slot 4) ∷ holder 9 Holder.Nobody ∷ mail 0 1 ∷ mail 1 1 ∷ [])
+    ∷ []
+
+-- every refusal is as documents 01 and 02 say
 pub refusals-hold : map found refusalRows ≡ map wanted refusalRows
 unfolding found wanted
 refusals-hold = refl
+
+pub limits-hold : map found limitRows ≡ map wanted limitRows
+unfolding found wanted
+limits-hold = refl

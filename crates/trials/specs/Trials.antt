@@ -8,7 +8,7 @@ use Rattle.trials.specs.Rounds.{roundRows, terminateRows, refreshRows, a
 use Rattle.trials.specs.Undone.{undoneRows, sweepRows, releaseRows, undone-hold, sweeps-hold, releases-hold}
 use Rattle.trials.specs.Crashes.{crashRows, outageRows, crashes-hold, outages-hold}
 use Rattle.trials.specs.Mail.{mailRows, waitingRows, mails-hold, waits-hold}
-use Rattle.trials.specs.Refusals.{refusalRows, refusals-hold}
+use Rattle.trials.specs.Refusals.{refusalRows, limitRows, refusals-hold, limits-hold}
 use Rattle.trials.specs.Handed.{handedRows, handed-hold}
 use Rattle.trials.specs.Sheets.{sheetRows, sheets-hold}
 
@@ -34,12 +34,12 @@ fallingRows = (undoneRows ++ (sweepRows ++ releaseRows)) ++ (crashRows ++ outage
 
 -- what is said: messages, refusals, listings
 abbrev pub spokenRows : List Row
-spokenRows = (mailRows ++ waitingRows) ++ (refusalRows ++ (handedRows ++ sheetRows))
+spokenRows = (mailRows ++ waitingRows) ++ ((refusalRows ++ limitRows) ++ (handedRows ++ sheetRows))
 
 abbrev pub trialRows : List Row
 trialRows = (standingRows ++ openRows) ++ (fallingRows ++ spokenRows)
 
--- every row is as document 01 says
+-- every row is as documents 01 and 02 say
 pub trials-hold : map found trialRows ≡ map wanted trialRows
 trials-hold =
     let stands = hold-joined commitRows (countRows ++ promiseRows) commits-hold (hold-joined countRows promiseRows counts-hold promises-hold) in
@@ -51,7 +51,8 @@ trials-hold =
     let falls = hold-joined (undoneRows ++ (sweepRows ++ releaseRows)) (crashRows ++ outageRows) undo down in
     let post = hold-joined mailRows waitingRows mails-hold waits-hold in
     let lists = hold-joined handedRows sheetRows handed-hold sheets-hold in
-    let told = hold-joined refusalRows (handedRows ++ sheetRows) refusals-hold lists in
-    let says = hold-joined (mailRows ++ waitingRows) (refusalRows ++ (handedRows ++ sheetRows)) post told in
+    let refused = hold-joined refusalRows limitRows refusals-hold limits-hold in
+    let told = hold-joined (refusalRows ++ limitRows) (handedRows ++ sheetRows) refused lists in
+    let says = hold-joined (mailRows ++ waitingRows) ((refusalRows ++ limitRows) ++ (handedRows ++ sheetRows)) post told in
     let held = hold-joined standingRows openRows stands opens in
     hold-joined (standingRows ++ openRows) (fallingRows ++ spokenRows) held (hold-joined fallingRows spokenRows falls says)

@@ -27,10 +27,10 @@ refusalPhrases =
     ∷ "quiesced or dead"  -- 8
     ∷ "wrong round or done before"  -- 9
     ∷ "object is held"  -- 10
-    ∷ "no room left"  -- 11
+    ∷ "the message table is full"  -- 11
     ∷ "round is not closed"  -- 12
-    ∷ ""  -- 13
-    ∷ ""  -- 14
+    ∷ "no call is left to that station"  -- 13
+    ∷ "no round is left"  -- 14
     ∷ ""  -- 15
     ∷ ""  -- 16
     ∷ ""  -- 17

@@ -9,7 +9,7 @@ use mathlib.Core.Logic.{_≢_, ⊎-elim}
 use mathlib.Core.Bool.{true, false, false≢true}
 use mathlib.Core.List.{List}
 use borrow.Author.Tests.{eq-eqb, ne-eqb, le-ltb}
-use Rattle.rules.specs.LoopsLaws.{either, first-at, first-below}
+use Rattle.rules.specs.LoopsLaws.{either}
 use Rattle.rules.specs.Limits.{clockMost, handleMost, messageMost}
 use Rattle.rules.specs.Tables.{siteAt, passageAt, visitAt, messageAt, slotOf, generationOf, handleOf}
 use Rattle.rules.specs.Ranges.{inRange}
@@ -21,6 +21,7 @@ use Rattle.rules.specs.Calls.{mailClock, toldAt, phaseTwoDone, deliverPhaseTwoO
 use Rattle.rules.specs.Machine.{lookOf, lowestEmpty, placesOf, decideOf, stored, headOf, turnsUpTo, stepInRangeOf, stepOf}
 use Rattle.rules.specs.StoredLaws.{visit-place-same, site-after-stored, site-after-stored-other, visit-after-stored, visit-after-stored-other}
 use Rattle.rules.specs.RangesLaws.{placed-places}
+use Rattle.rules.specs.SaidLaws.{takes-empty}
 use Rattle.rules.specs.Events.{isHolding}
 use Rattle.rules.specs.Runs.{Started, runOf}
 use Rattle.runs.specs.Types.{Site, Phase, Status, Visit, Told, Body, Tables, Step, Places, Seen, Decision}
@@ -87,14 +88,6 @@ module _ (t : Tables) (h p s : ℕ) (range : inRange t ≡ true) (slot : slotOf 
         empty,
       )
       refl
-
--- where a message slot is empty, so is the one that a new message takes
-takes-empty : (t : Tables) (m : ℕ) → m < 32 → isEmpty (messageAt t m .body) ≡ true → isEmpty (messageAt t (min (lowestEmpty t) messageMost) .body) ≡ true
-unfolding lowestEmpty
-takes-empty t m below empty =
-    let l : lowestEmpty t < 32 = first-below (λ k. isEmpty (messageAt t k .body)) 32 m below empty in
-    let e : min (lowestEmpty t) 31 ≡ lowestEmpty t = omega arith in
-    rw e (first-at (λ k. isEmpty (messageAt t k .body)) 32 l)
 
 -- in every run: home may tell every site where its committed passage has a visit.
 -- The tell is accepted where home is up, its clock is below its most, and some message slot is empty

@@ -3,24 +3,22 @@ use Prim.Native.Nat.{ℕ, _%_, _≤_, _<_}
 use native.Mathlib.Omega.{arith}
 use mathlib.Core.Path.{_≡_, refl, sym, ap, _∙_}
 use mathlib.Core.Logic.{_≢_, ⊎-elim, _⊎_, inl, inr}
-use mathlib.Core.Bool.{Bool, true, false, not, _&&_, _||_, true≢false}
+use mathlib.Core.Bool.{Bool, true, false, not, _||_, true≢false}
 use mathlib.Core.List.{List}
-use lib.Dec.{eqb, ltb}
+use lib.Dec.{eqb}
 use lib.ListN.{getD}
-use borrow.Author.Tests.{ltb-false}
 use Rattle.rules.specs.declared.tables.Object.{Object}
 use Rattle.rules.specs.declared.looking.Trip.{Trip}
 use Rattle.rules.specs.declared.outcomes.Check.{Check}
-use Rattle.rules.specs.Limits.{widthMost}
-use Rattle.rules.specs.LoopsLaws.{either, or-left, or-right}
+use Rattle.rules.specs.LoopsLaws.{either}
 use Rattle.rules.specs.Tables.{pastObject, siteAt, passageAt, visitAt, messageAt, bankAt, objectSite, slotOf, noMessage}
 use Rattle.rules.specs.Answers.{isAccepted, firstOf, settleOf}
 use Rattle.rules.specs.AnswersLaws.{Fine, accepted-fine}
+use Rattle.rules.specs.FineLaws.{call-fields}
 use Rattle.rules.specs.Parts.{nextClock, isHeldBy, isHeldByOther, freed, restored, eachOf, whereThere, askedVisit, toldVisit, toldObjects, askedOf, plainMessage}
 use Rattle.rules.specs.Seen.{leftSite}
-use Rattle.rules.specs.Checks.{badSite, badHandle}
 use Rattle.rules.specs.Rounds.{sentOut, roundTold, closed, openOf, closeOf}
-use Rattle.rules.specs.Calls.{callSite, badCall, mailClock, mailSlot, atHome, replyOf, askedAt, calledVisit, calledObject, called, invokeOf, emptyOf, deliverCallOf, deliverPhaseOneOf, deliverPhaseTwoOf, deliverAnswerOf, deliverBodyOf, lost, dropOf}
+use Rattle.rules.specs.Calls.{callSite, mailClock, mailSlot, atHome, replyOf, askedAt, calledVisit, calledObject, called, invokeOf, emptyOf, deliverCallOf, deliverPhaseOneOf, deliverPhaseTwoOf, deliverAnswerOf, deliverBodyOf, lost, dropOf}
 use Rattle.rules.specs.Stations.{isSwept, losesHome, crashedVisit, sweptSlot, crashedSlot}
 use Rattle.rules.specs.Passages.{beginOf, abortOf, retired, retireOf}
 use Rattle.rules.specs.Machine.{seenOf, bodyBank, turnSeen}
@@ -196,22 +194,9 @@ module _ (t : Tables) (at : Places) (k : Held t) where
   unfolding invokeOf
   held-after-invoke h site write object value place =
       held-after-settled _ _ _ λ f.
-      let o : object ≤ 31 = ltb-false 31 object (object-says (f .fields)) in
+      let o : object ≤ 31 = call-fields h site write object value (f .fields) .below in
       held-after-same _ refl (λ e. e) (λ c e. sent c (ap calledOf e) o)
     where
-      object-says : badCall h site write object value ≡ false → ltb 31 object ≡ false
-      object-says e =
-          or-right
-          (badHandle h || badSite site || ltb 1 write)
-          (ltb 31 object)
-          (or-left
-          (badHandle h || badSite site || ltb 1 write || ltb 31 object)
-          (ltb widthMost value)
-          (or-left
-          (badHandle h || badSite site || ltb 1 write || ltb 31 object || ltb widthMost value)
-          (eqb write 0 && not (eqb value 0))
-          e))
-
       sent : (c : Call) → object ≡ c .object → object ≤ 31 → (callSite object ≡ objectSite (c .object)) × (c .object < 32)
       sent c e o =
           let y : object ≡ c .object = e in

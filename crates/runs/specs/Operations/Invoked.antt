@@ -2,17 +2,15 @@
 use Prim.Native.Nat.{ℕ, _≤_}
 use native.Mathlib.Omega.{arith}
 use mathlib.Core.Path.{_≡_, refl, sym, ap, _∙_}
-use mathlib.Core.Bool.{true, _||_}
-use lib.Dec.{leb, ltb}
-use borrow.Author.Tests.{leb-false, ltb-false}
-use Rattle.rules.specs.Limits.{widthMost, objectMost}
+use mathlib.Core.Bool.{true}
+use lib.Dec.{leb}
+use borrow.Author.Tests.{leb-false}
 use Rattle.rules.specs.LoopsLaws.{or-left, or-right, not-false}
 use Rattle.rules.specs.Tables.{siteAt, visitAt, messageAt, slotOf}
 use Rattle.rules.specs.Answers.{isAccepted, answerValue, firstOf}
 use Rattle.rules.specs.AnswersLaws.{Fine, accepted-fine, accepted-value, settle-accepted}
-use Rattle.rules.specs.FineLaws.{invoke-empty}
+use Rattle.rules.specs.FineLaws.{call-fields, invoke-empty}
 use Rattle.rules.specs.Parts.{nextClock}
-use Rattle.rules.specs.Checks.{badSite, badHandle}
 use Rattle.rules.specs.Calls.{invokeChecks, callOf, invoked, invokeDone, invokeOf}
 use Rattle.rules.specs.Machine.{lookOf, placesOf, decideOf, stored, stepOf}
 use Rattle.rules.specs.RangesLaws.{placed-places}
@@ -56,20 +54,10 @@ module _ (t : Tables) (h site b k u : ℕ) (z : Sound t) (a : isAccepted (stepOf
 
   -- the fields are in range
   site-below : site ≤ 7
-  site-below =
-      ltb-false 7 site
-      (or-right (badHandle h) _
-      (or-left (badHandle h || badSite site) _
-      (or-left (badHandle h || badSite site || ltb 1 b) _
-      (or-left (badHandle h || badSite site || ltb 1 b || ltb objectMost k) _
-      (or-left (badHandle h || badSite site || ltb 1 b || ltb objectMost k || ltb widthMost u) _ (fine .fields))))))
+  site-below = call-fields h site b k u (fine .fields) .from
 
   object-below : k ≤ 31
-  object-below =
-      ltb-false 31 k
-      (or-right (badHandle h || badSite site || ltb 1 b) _
-      (or-left (badHandle h || badSite site || ltb 1 b || ltb objectMost k) _
-      (or-left (badHandle h || badSite site || ltb 1 b || ltb objectMost k || ltb widthMost u) _ (fine .fields))))
+  object-below = call-fields h site b k u (fine .fields) .below
 
   here : At .site ≡ site
   unfolding placesOf

@@ -9,26 +9,29 @@ use Rattle.calls.proofs.invoked.invoke.Tie as tie
 
 invoked-requires : tie.Need-invoked-requires
 invoked-requires c κs =
-    let back = c .before .before .before .before .before .before .before .before .before .before .before in
-    back .before .before .before .before .before .before .before .before .before .before .before .pre
+    let back = c .before .before .before .before .before .before .before .before .before .before .before .before in
+    back .before .before .before .before .before .before .before .before .before .before .before .before .pre
 
 returns : tie.Need-returns
 unfolding invokeOf
 returns c =
-    let room = c .before .before .before in
-    let early = room .before .before .before .before in
+    let calls = c .before .before .before in
+    let room = calls .before .before .before in
+    let early = room .before .before .before in
     let clock = early .before .before .before .before in
     let there = clock .before .before in
     let up = there .before .before in
     let found = up .before .before in
     let fields = found .before .before in
     let args = fields .before .before .before .before .before .args in
-    let tried : room .or-else6 .result ≡ triedAll (invokeChecks (args .h) (args .site) (args .write) (args .object) (args .value) (args .seen)) =
+    let tried : calls .or-else7 .result ≡ triedAll (invokeChecks (args .h) (args .site) (args .write) (args .object) (args .value) (args .seen)) =
     rw (
+      calls .or-else7 .ensures,
+      calls .before .refuse4 .ensures,
+      calls .before .before .is-sent-out .ensures,
       room .or-else6 .ensures,
       room .before .refuse3 .ensures,
-      room .before .before .is-sent-out .ensures,
-      room .before .before .before .is-full .ensures,
+      room .before .before .is-full .ensures,
       early .or-else5 .ensures,
       early .before .refuse2 .ensures,
       clock .or-else4 .ensures,
@@ -57,7 +60,8 @@ invoke-spec =
     (λ c κs. search needs) (λ c κs. search needs) (λ c κs. search needs) (λ c κs. search needs)
     (λ c κs. search needs) (λ c κs. search needs) (λ c κs. search needs) (λ c. search needs)
     (λ c κs. search needs) (λ c κs. search needs) (λ c κs. search needs) (λ c κs. search needs)
-    (λ c κs. search needs) (λ c κs. search needs) (λ c κs. search needs)
+    (λ c κs. search needs) (λ c κs. search needs) (λ c κs. search needs) (λ c κs. search needs)
+    (λ c κs. search needs)
     invoked-requires
     (λ c κs. search needs)
     returns)
