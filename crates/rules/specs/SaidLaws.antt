@@ -118,20 +118,20 @@ NoSlotLeft t step =
 -- or the delivery of a call, and the visit there has received 1,000, while no other passage holds the object
 pub data NoCallLeft (t : Tables) : Step → Type 0 where
   Sent :
-      (h site write object value m : ℕ) → getD (visitAt t site (slotOf h) .sent) (objectSite object) 0 ≡ countMost
+      (h site write object value m : ℕ) → getD (visitAt t site (slotOf h) .sent) (objectSite object) 0 ≡ 1000
       → m < 32
       → isEmpty (messageAt t m .body) ≡ true
       → NoCallLeft t (Step.Invoke h site write object value)
   Received :
       (m : ℕ) (c : Call) → messageAt t m .body ≡ Body.Call c
-      → visitAt t (messageAt t m .destination) (slotOf (messageAt t m .handle)) .received ≡ countMost
+      → visitAt t (messageAt t m .destination) (slotOf (messageAt t m .handle)) .received ≡ 1000
       → isHeldByOther (slotOf (messageAt t m .handle)) (objectAt t (c .object)) ≡ false
       → NoCallLeft t (Step.Deliver m)
 
 -- 14: the step opens a round, and its passage is in round 1,000
 abbrev pub NoRoundLeft : Tables → Step → Type 0
 NoRoundLeft t step =
-    ((isStep 4 step || isStep 5 step || isStep 6 step) ≡ true) × (passageAt t (slotOf (flatOf step .h)) .round .number ≡ countMost)
+    ((isStep 4 step || isStep 5 step || isStep 6 step) ≡ true) × (passageAt t (slotOf (flatOf step .h)) .round .number ≡ 1000)
 
 record Says (t : Tables) (step : Step) : Type 0 where
   eleven : Refused t step Refusal.Full → NoSlotLeft t step
@@ -150,7 +150,9 @@ silent t step a b c =
     }
 
 -- where a message slot is empty, so is the one that a new message takes
-pub takes-empty : (t : Tables) (m : ℕ) → m < 32 → isEmpty (messageAt t m .body) ≡ true → isEmpty (messageAt t (min (lowestEmpty t) messageMost) .body) ≡ true
+pub takes-empty :
+    (t : Tables) (m : ℕ) → m < 32 → isEmpty (messageAt t m .body) ≡ true
+    → isEmpty (messageAt t (min (lowestEmpty t) messageMost) .body) ≡ true
 unfolding lowestEmpty
 takes-empty t m below empty =
     let l : lowestEmpty t < 32 = first-below (λ k. isEmpty (messageAt t k .body)) 32 m below empty in
@@ -181,7 +183,8 @@ module _ (t : Tables) where
             let fits : getD (visitAt t (site % 8) (slotOf h) .sent) (objectSite object % 8) 0 ≤ countMost =
             r .fits .visit .sent (objectSite object % 8) (omega arith) in
             let same : getD (visitAt t (site % 8) (slotOf h) .sent) (objectSite object % 8) 0 ≡ countMost = omega arith in
-            NoCallLeft.Sent h site write object value (min (lowestEmpty t) messageMost) (rw (here, there) at same) (omega arith) (not-false _ (r .lower Refusal.Full (omega arith)));
+            NoCallLeft.Sent h site write object value (min (lowestEmpty t) messageMost) (rw (here, there) at same) (omega arith)
+            (not-false _ (r .lower Refusal.Full (omega arith)));
         fourteen = λ r. absurd (false≢true (r .holds));
       }
 
@@ -241,8 +244,10 @@ module _ (t : Tables) where
             let at : x .destination % 8 ≡ x .destination = let d : x .destination ≤ 7 = r .fits .message .destination in omega arith in
             let same : v .received ≡ countMost = omega arith in
             let call : CallFits c = call-range-says c (rw e at (r .fits .message .body)) in
-            let o : getD (bankAt t (objectSite (c .object) % 8)) (c .object % 4) pastObject ≡ objectAt t (c .object) = seen-object t (c .object) _ (omega arith) in
-            NoCallLeft.Received m c (rw slot at e) (rw slot at (rw at at same)) (rw slot at (rw o at (rw e at (lower Refusal.Held (omega arith)))));
+            let o : getD (bankAt t (objectSite (c .object) % 8)) (c .object % 4) pastObject ≡ objectAt t (c .object) =
+            seen-object t (c .object) _ (omega arith) in
+            NoCallLeft.Received m c (rw slot at e) (rw slot at (rw at at same))
+            (rw slot at (rw o at (rw e at (lower Refusal.Held (omega arith)))));
         fourteen = λ r. absurd (false≢true (rw e at (r .holds)));
       }
   delivery-says m (Body.PhaseOne n a) e = silent t (Step.Deliver m) (rw e) (rw e) (rw e)
