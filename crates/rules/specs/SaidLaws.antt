@@ -1,22 +1,22 @@
 -- What 11, 13 and 14 say of the tables, by whatever step they are given: no message slot is empty; 1,000 calls have been sent there, or received there;
 -- the passage is in round 1,000.
--- The idea: a refusal is the first check of the step's list that holds, and no other check of the list has its number. Assumes nothing.
+-- The idea: a refusal's own check holds, and none of a lower number; what it asks is read off the step's list. Assumes nothing.
 use Prim.Native.Nat.{ℕ, _%_, _<_, _≤_, min, zero-le}
 use native.Mathlib.Omega.{arith}
 use mathlib.Core.Path.{_≡_, refl, sym, _∙_, subst}
-use mathlib.Core.Logic.{_≢_, ⊎-elim}
+use mathlib.Core.Logic.{⊎-elim}
 use mathlib.Core.Bool.{true, false, not, _||_, false≢true, true≢false}
-use mathlib.Core.List.{List, [], _∷_}
-use lib.Dec.{eqb, leb, ltb}
+use mathlib.Core.List.{List}
+use lib.Dec.{eqb, leb}
 use lib.ListN.{getD}
-use borrow.Author.Tests.{eq-eqb, ne-eqb, eqb-true, leb-true, ltb-true, ltb-false}
-use Rattle.rules.specs.Types.{Visit, Call, Body, Message, Tables, Step, Refusal, Check, Seen}
+use borrow.Author.Tests.{leb-true, ltb-false}
+use Rattle.rules.specs.Types.{Visit, Call, Body, Message, Tables, Step, Refusal, Check, Seen, Places}
 use Rattle.rules.specs.Limits.{countMost, messageMost}
 use Rattle.rules.specs.Tables.{objectAt, passageAt, visitAt, messageAt, bankAt, objectSite, slotOf, pastObject}
 use Rattle.rules.specs.Ranges.{inRange}
-use Rattle.rules.specs.LoopsLaws.{and-left, and-right, not-true, not-false, either, cond-keeps, first-at, first-below}
-use Rattle.rules.specs.Answers.{refusalNumber, answerNumber, firstOf}
-use Rattle.rules.specs.AnswersLaws.{refusal-not-zero, holdsOf}
+use Rattle.rules.specs.LoopsLaws.{not-true, not-false, either, cond-keeps, first-at, first-below}
+use Rattle.rules.specs.Answers.{refusalNumber, answerNumber}
+use Rattle.rules.specs.AnswersLaws.{holdsOf}
 use Rattle.rules.specs.Parts.{isEmpty, newVisit, isHeldByOther}
 use Rattle.rules.specs.Checks.{badMessage}
 use Rattle.rules.specs.Calls.{calledVisit, callChecks}
@@ -26,49 +26,8 @@ use Rattle.rules.specs.RangesLaws.{seen-in-range, placed-places}
 use Rattle.rules.specs.RangesFits.{CallFits, call-range-says, SeenFits, seen-says}
 use Rattle.rules.specs.StoredObjects.{seen-object}
 use Rattle.rules.specs.FineLaws.{CallFields, call-fields}
-use Rattle.rules.specs.SettledLaws.{isRising, NoneBelow, checksOf, deliveryChecks, decided-by-checks, checks-rise, lowest-refuses}
+use Rattle.rules.specs.SettledLaws.{deliveryChecks, checksOf, RefusedBy, decided-refused-by}
 use Rattle.rules.specs.TwentyLaws.{number-after-turns, twenty-of-step}
-
--- ---- a refusal's own check holds
-
--- a refusal whose check holds has a number above those of the checks before
-rising-holds : (cs : List Check) (k : ℕ) (r : Refusal) → isRising k cs ≡ true → holdsOf r cs ≡ true → k < refusalNumber r
-rising-holds [] k r e h = absurd (false≢true h)
-rising-holds (c ∷ cs) k r e h =
-    let i : k < refusalNumber (c .gives) = ltb-true _ _ (and-left _ (isRising (refusalNumber (c .gives)) cs) e) in
-    ⊎-elim
-    (λ q. let w : refusalNumber (c .gives) ≡ refusalNumber r = eqb-true _ _ q in omega arith)
-    (λ q.
-    let j : refusalNumber (c .gives) < refusalNumber r =
-    rising-holds cs (refusalNumber (c .gives)) r (and-right (ltb k (refusalNumber (c .gives))) _ e) (rw q at h) in
-    omega arith)
-    (either (eqb (refusalNumber (c .gives)) (refusalNumber r)))
-
-first-holds :
-    (cs : List Check) (v k : ℕ) (r : Refusal) → isRising k cs ≡ true → answerNumber (firstOf cs v) ≡ refusalNumber r
-    → holdsOf r cs ≡ true
-unfolding firstOf
-first-holds [] v k r e n = absurd (refusal-not-zero r (sym n))
-first-holds (c ∷ cs) v k r e n =
-    let rest : isRising (refusalNumber (c .gives)) cs ≡ true = and-right (ltb k (refusalNumber (c .gives))) _ e in
-    ⊎-elim
-    (λ h. let w : refusalNumber (c .gives) ≡ refusalNumber r = rw h at n in rw (eq-eqb _ _ w) h)
-    (λ h.
-    let held : holdsOf r cs ≡ true = first-holds cs v (refusalNumber (c .gives)) r rest (rw h at n) in
-    let above : refusalNumber (c .gives) < refusalNumber r = rising-holds cs (refusalNumber (c .gives)) r rest held in
-    rw (ne-eqb _ _ (λ (w : refusalNumber (c .gives) ≡ refusalNumber r). omega arith)) held)
-    (either (c .holds))
-
--- no check of a lower number does
-lower-holds-not : (cs : List Check) (n : ℕ) (s : Refusal) → NoneBelow n cs → refusalNumber s < n → holdsOf s cs ≡ false
-lower-holds-not [] n s b l = refl
-lower-holds-not (c ∷ cs) n s b l =
-    ⊎-elim
-    (λ q.
-    let w : refusalNumber (c .gives) ≡ refusalNumber s = eqb-true _ _ q in
-    rw q (⊎-elim (λ h. let i = b .0 h in absurd (omega arith)) (λ h. h) (either (c .holds))))
-    (λ q. rw q (lower-holds-not cs n s (b .1) l))
-    (either (eqb (refusalNumber (c .gives)) (refusalNumber s)))
 
 -- ---- of a step
 
@@ -78,31 +37,24 @@ sees t step = seenOf t (placesOf t (lookOf step))
 abbrev tries : Tables → Step → List Check
 tries t step = checksOf step (foundOf t (placesOf t (lookOf step))) (sees t step)
 
--- what it says that a step is refused by this: its check holds, and none of a lower number; and what was seen is in range
+-- what it says that a step gives this refusal: so does its decision, on tables in range
 record Refused (t : Tables) (step : Step) (r : Refusal) : Type 0 where
-  holds : holdsOf r (tries t step) ≡ true
-  lower : (s : Refusal) → refusalNumber s < refusalNumber r → holdsOf s (tries t step) ≡ false
+  by : RefusedBy r (tries t step)
   fits : SeenFits (sees t step)
-
-in-range-number : (t : Tables) (step : Step) → answerNumber (stepInRangeOf t step .answer) ≡ answerNumber (headOf t step .answer)
-unfolding stepInRangeOf
-in-range-number t step = number-after-turns (lookOf step .trip) (headOf t step) (turnCount (lookOf step .trip) (headOf t step .answer))
 
 refused :
     (t : Tables) (step : Step) (r : Refusal) → eqb (refusalNumber r) 20 ≡ false
-    → answerNumber (stepOf t step .answer) ≡ refusalNumber r → Refused t step r
-unfolding stepOf headOf
+    → answerNumber (stepOf t step .answer) ≡ refusalNumber r
+    → Refused t step r
+unfolding stepOf stepInRangeOf headOf
 refused t step r other n =
-    let found = foundOf t (placesOf t (lookOf step)) in
+    let at : Places = placesOf t (lookOf step) in
+    let turns = number-after-turns (lookOf step .trip) (headOf t step) (turnCount (lookOf step .trip) (headOf t step .answer)) in
     ⊎-elim
     (λ range.
-    let d : answerNumber (headOf t step .answer) ≡ refusalNumber r = sym (in-range-number t step) ∙ (rw range at n) in
     record {
-      holds =
-          first-holds (tries t step) (decided-by-checks step found (sees t step) .0) 0 r (checks-rise step found (sees t step))
-          (rw (decided-by-checks step found (sees t step) .1) at d);
-      lower = λ s. lower-holds-not (tries t step) (refusalNumber r) s (rw d at (lowest-refuses step found (sees t step)));
-      fits = seen-says (sees t step) (seen-in-range t (placesOf t (lookOf step)) range (placed-places t (lookOf step)));
+      by = decided-refused-by step (foundOf t at) (seenOf t at) r (sym turns ∙ (rw range at n));
+      fits = seen-says (seenOf t at) (seen-in-range t at range (placed-places t (lookOf step)));
     })
     (λ range. absurd (false≢true (sym other ∙ (rw (sym n) (twenty-of-step t step ∙ rw range)))))
     (either (inRange t))
@@ -110,33 +62,33 @@ refused t step r other n =
 -- ---- what they say
 
 -- 11: the step sends a message, and no message slot is empty
-abbrev pub NoSlotLeft : Tables → Step → Type 0
-NoSlotLeft t step =
+abbrev pub TableFull : Tables → Step → Type 0
+TableFull t step =
     ((isStep 3 step || isStep 7 step || isStep 9 step) ≡ true) × ((m : ℕ) → m < 32 → isEmpty (messageAt t m .body) ≡ false)
 
 -- 13: an invoke, and the visit at its site has sent 1,000 calls to the object's, while a message slot is empty;
 -- or the delivery of a call, and the visit there has received 1,000, while no other passage holds the object
-pub data NoCallLeft (t : Tables) : Step → Type 0 where
+pub data CallsSpent (t : Tables) : Step → Type 0 where
   Sent :
       (h site write object value m : ℕ) → getD (visitAt t site (slotOf h) .sent) (objectSite object) 0 ≡ 1000
       → m < 32
       → isEmpty (messageAt t m .body) ≡ true
-      → NoCallLeft t (Step.Invoke h site write object value)
+      → CallsSpent t (Step.Invoke h site write object value)
   Received :
       (m : ℕ) (c : Call) → messageAt t m .body ≡ Body.Call c
       → visitAt t (messageAt t m .destination) (slotOf (messageAt t m .handle)) .received ≡ 1000
       → isHeldByOther (slotOf (messageAt t m .handle)) (objectAt t (c .object)) ≡ false
-      → NoCallLeft t (Step.Deliver m)
+      → CallsSpent t (Step.Deliver m)
 
 -- 14: the step opens a round, and its passage is in round 1,000
-abbrev pub NoRoundLeft : Tables → Step → Type 0
-NoRoundLeft t step =
+abbrev pub RoundsSpent : Tables → Step → Type 0
+RoundsSpent t step =
     ((isStep 4 step || isStep 5 step || isStep 6 step) ≡ true) × (passageAt t (slotOf (flatOf step .h)) .round .number ≡ 1000)
 
 record Says (t : Tables) (step : Step) : Type 0 where
-  eleven : Refused t step Refusal.Full → NoSlotLeft t step
-  thirteen : Refused t step Refusal.NoCallLeft → NoCallLeft t step
-  fourteen : Refused t step Refusal.NoRoundLeft → NoRoundLeft t step
+  eleven : Refused t step Refusal.Full → TableFull t step
+  thirteen : Refused t step Refusal.NoCallLeft → CallsSpent t step
+  fourteen : Refused t step Refusal.NoRoundLeft → RoundsSpent t step
 
 -- a step that has none of the three
 silent :
@@ -144,9 +96,9 @@ silent :
     → holdsOf Refusal.NoRoundLeft (tries t step) ≡ false → Says t step
 silent t step a b c =
     record {
-      eleven = λ r. absurd (false≢true (sym a ∙ r .holds));
-      thirteen = λ r. absurd (false≢true (sym b ∙ r .holds));
-      fourteen = λ r. absurd (false≢true (sym c ∙ r .holds));
+      eleven = λ r. absurd (false≢true (sym a ∙ r .by .holds));
+      thirteen = λ r. absurd (false≢true (sym b ∙ r .by .holds));
+      fourteen = λ r. absurd (false≢true (sym c ∙ r .by .holds));
     }
 
 -- where a message slot is empty, so is the one that a new message takes
@@ -173,19 +125,19 @@ module _ (t : Tables) where
   unfolding placesOf
   invoke-says h site write object value =
       record {
-        eleven = λ r. (refl, none-empty t (r .holds));
+        eleven = λ r. (refl, none-empty t (r .by .holds));
         thirteen =
             λ r.
-            let g : CallFields h site write object value = call-fields h site write object value (r .lower Refusal.BadField (omega arith)) in
+            let g : CallFields h site write object value = call-fields h site write object value (r .by .lower Refusal.BadField (omega arith)) in
             let here : site % 8 ≡ site = omega arith in
             let there : objectSite object % 8 ≡ objectSite object = omega arith in
-            let most : countMost ≤ getD (visitAt t (site % 8) (slotOf h) .sent) (objectSite object % 8) 0 = leb-true _ _ (r .holds) in
+            let most : countMost ≤ getD (visitAt t (site % 8) (slotOf h) .sent) (objectSite object % 8) 0 = leb-true _ _ (r .by .holds) in
             let fits : getD (visitAt t (site % 8) (slotOf h) .sent) (objectSite object % 8) 0 ≤ countMost =
             r .fits .visit .sent (objectSite object % 8) (omega arith) in
             let same : getD (visitAt t (site % 8) (slotOf h) .sent) (objectSite object % 8) 0 ≡ countMost = omega arith in
-            NoCallLeft.Sent h site write object value (min (lowestEmpty t) messageMost) (rw (here, there) at same) (omega arith)
-            (not-false _ (r .lower Refusal.Full (omega arith)));
-        fourteen = λ r. absurd (false≢true (r .holds));
+            CallsSpent.Sent h site write object value (min (lowestEmpty t) messageMost) (rw (here, there) at same) (omega arith)
+            (not-false _ (r .by .lower Refusal.Full (omega arith)));
+        fourteen = λ r. absurd (false≢true (r .by .holds));
       }
 
   -- what ask and tell share
@@ -197,9 +149,9 @@ module _ (t : Tables) where
       → Says t step
   sends-says step sends full b c =
       record {
-        eleven = λ r. (sends, none-empty t (sym full ∙ r .holds));
-        thirteen = λ r. absurd (false≢true (sym b ∙ r .holds));
-        fourteen = λ r. absurd (false≢true (sym c ∙ r .holds));
+        eleven = λ r. (sends, none-empty t (sym full ∙ r .by .holds));
+        thirteen = λ r. absurd (false≢true (sym b ∙ r .by .holds));
+        fourteen = λ r. absurd (false≢true (sym c ∙ r .by .holds));
       }
 
   -- what refresh, terminate and prepare share
@@ -212,11 +164,11 @@ module _ (t : Tables) where
       → Says t step
   opens-says step opens own a b number =
       record {
-        eleven = λ r. absurd (false≢true (sym a ∙ r .holds));
-        thirteen = λ r. absurd (false≢true (sym b ∙ r .holds));
+        eleven = λ r. absurd (false≢true (sym a ∙ r .by .holds));
+        thirteen = λ r. absurd (false≢true (sym b ∙ r .by .holds));
         fourteen =
             λ r.
-            let most : countMost ≤ sees t step .passage .round .number = leb-true _ _ (sym number ∙ r .holds) in
+            let most : countMost ≤ sees t step .passage .round .number = leb-true _ _ (sym number ∙ r .by .holds) in
             let fits : sees t step .passage .round .number ≤ countMost = r .fits .passage .round .number in
             let same : sees t step .passage .round .number ≡ countMost = omega arith in
             (opens, rw own at same);
@@ -228,16 +180,16 @@ module _ (t : Tables) where
   delivery-says m Body.Empty e = silent t (Step.Deliver m) (rw e) (rw e) (rw e)
   delivery-says m (Body.Call c) e =
       record {
-        eleven = λ r. absurd (false≢true (rw e at (r .holds)));
+        eleven = λ r. absurd (false≢true (rw e at (r .by .holds)));
         thirteen =
             λ r.
             let x : Message = messageAt t (m % 32) in
             let v : Visit = visitAt t (x .destination % 8) (slotOf (x .handle)) in
             let lower : (s : Refusal) → refusalNumber s < 13 → holdsOf s (callChecks m c (sees t (Step.Deliver m))) ≡ false =
-            λ s l. subst (λ (b : Body). holdsOf s (deliveryChecks b m (sees t (Step.Deliver m))) ≡ false) e (r .lower s l) in
+            λ s l. subst (λ (b : Body). holdsOf s (deliveryChecks b m (sees t (Step.Deliver m))) ≡ false) e (r .by .lower s l) in
             let below : badMessage m ≡ false = lower Refusal.BadField (omega arith) in
             let slot : m % 32 ≡ m = omega (arith, ltb-false) in
-            let called : countMost ≤ calledVisit c v .received = leb-true _ _ (rw e at (r .holds)) in
+            let called : countMost ≤ calledVisit c v .received = leb-true _ _ (rw e at (r .by .holds)) in
             let own : calledVisit c v .received ≤ v .received =
             cond-keeps (λ (w : Visit). w .received ≤ v .received) (v .there) v (newVisit (c .quiesce) (c .release) (c .round)) (omega arith) zero-le in
             let fits : v .received ≤ countMost = r .fits .visit .received in
@@ -246,9 +198,9 @@ module _ (t : Tables) where
             let call : CallFits c = call-range-says c (rw e at (r .fits .message .body)) in
             let o : getD (bankAt t (objectSite (c .object) % 8)) (c .object % 4) pastObject ≡ objectAt t (c .object) =
             seen-object t (c .object) _ (omega arith) in
-            NoCallLeft.Received m c (rw slot at e) (rw slot at (rw at at same))
+            CallsSpent.Received m c (rw slot at e) (rw slot at (rw at at same))
             (rw slot at (rw o at (rw e at (lower Refusal.Held (omega arith)))));
-        fourteen = λ r. absurd (false≢true (rw e at (r .holds)));
+        fourteen = λ r. absurd (false≢true (rw e at (r .by .holds)));
       }
   delivery-says m (Body.PhaseOne n a) e = silent t (Step.Deliver m) (rw e) (rw e) (rw e)
   delivery-says m (Body.PhaseTwo n d) e = silent t (Step.Deliver m) (rw e) (rw e) (rw e)
@@ -274,11 +226,11 @@ module _ (t : Tables) where
   says (Step.Recover site) = silent t _ refl refl refl
   says (Step.Retire h) = silent t _ refl refl refl
 
-  pub eleven-says : (step : Step) → answerNumber (stepOf t step .answer) ≡ 11 → NoSlotLeft t step
+  pub eleven-says : (step : Step) → answerNumber (stepOf t step .answer) ≡ 11 → TableFull t step
   eleven-says step n = says step .eleven (refused t step Refusal.Full refl n)
 
-  pub thirteen-says : (step : Step) → answerNumber (stepOf t step .answer) ≡ 13 → NoCallLeft t step
+  pub thirteen-says : (step : Step) → answerNumber (stepOf t step .answer) ≡ 13 → CallsSpent t step
   thirteen-says step n = says step .thirteen (refused t step Refusal.NoCallLeft refl n)
 
-  pub fourteen-says : (step : Step) → answerNumber (stepOf t step .answer) ≡ 14 → NoRoundLeft t step
+  pub fourteen-says : (step : Step) → answerNumber (stepOf t step .answer) ≡ 14 → RoundsSpent t step
   fourteen-says step n = says step .fourteen (refused t step Refusal.NoRoundLeft refl n)

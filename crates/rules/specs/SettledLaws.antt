@@ -2,15 +2,15 @@
 -- That a refusal leaves what was seen, that no step gives 20, and that a refusal is the lowest that applies, is read from these rows. Assumes nothing.
 use Prim.Native.Nat.{ℕ, _<_, _≤_}
 use native.Mathlib.Omega.{arith}
-use mathlib.Core.Path.{_≡_, refl}
+use mathlib.Core.Path.{_≡_, refl, sym}
 use mathlib.Core.Logic.{⊎-elim}
 use mathlib.Core.Bool.{Bool, true, false, not, _&&_, _||_, false≢true}
 use mathlib.Core.List.{List, [], _∷_}
 use lib.Dec.{eqb, leb, ltb}
-use borrow.Author.Tests.{ltb-true}
+use borrow.Author.Tests.{eq-eqb, ne-eqb, eqb-true, ltb-true}
 use Rattle.rules.specs.Types.{Body, Step, Refusal, Answer, Check, Seen, Found, Decision}
 use Rattle.rules.specs.Answers.{refuse, refusalNumber, answerNumber, isAccepted, firstOf, settleOf}
-use Rattle.rules.specs.AnswersLaws.{Clear, settle-refused, accepted-fine}
+use Rattle.rules.specs.AnswersLaws.{refusal-not-zero, Clear, holdsOf, settle-refused, accepted-fine}
 use Rattle.rules.specs.LoopsLaws.{and-left, and-right, not-true, either}
 use Rattle.rules.specs.Checks.{badHandle, badTimes, badMessage, noMail}
 use Rattle.rules.specs.Parts.{isActive, isRunning, isAborted, asksLife, tellsLife}
@@ -67,6 +67,46 @@ first-lowest (c ∷ cs) v k e =
     (λ h. rw h (λ y. omega arith, rising-above cs (refusalNumber (c .gives)) (refusalNumber (c .gives)) (omega arith) rest))
     (λ h. rw h (λ y. absurd (false≢true y), first-lowest cs v (refusalNumber (c .gives)) rest))
     (either (c .holds))
+
+-- a refusal whose check holds has a number above those of the checks before
+rising-holds : (cs : List Check) (k : ℕ) (r : Refusal) → isRising k cs ≡ true → holdsOf r cs ≡ true → k < refusalNumber r
+rising-holds [] k r e h = absurd (false≢true h)
+rising-holds (c ∷ cs) k r e h =
+    let i : k < refusalNumber (c .gives) = ltb-true _ _ (and-left _ (isRising (refusalNumber (c .gives)) cs) e) in
+    ⊎-elim
+    (λ q. let w : refusalNumber (c .gives) ≡ refusalNumber r = eqb-true _ _ q in omega arith)
+    (λ q.
+    let j : refusalNumber (c .gives) < refusalNumber r =
+    rising-holds cs (refusalNumber (c .gives)) r (and-right (ltb k (refusalNumber (c .gives))) _ e) (rw q at h) in
+    omega arith)
+    (either (eqb (refusalNumber (c .gives)) (refusalNumber r)))
+
+-- so where a refusal is given, its own check holds
+first-holds :
+    (cs : List Check) (v k : ℕ) (r : Refusal) → isRising k cs ≡ true → answerNumber (firstOf cs v) ≡ refusalNumber r
+    → holdsOf r cs ≡ true
+unfolding firstOf
+first-holds [] v k r e n = absurd (refusal-not-zero r (sym n))
+first-holds (c ∷ cs) v k r e n =
+    let rest : isRising (refusalNumber (c .gives)) cs ≡ true = and-right (ltb k (refusalNumber (c .gives))) _ e in
+    ⊎-elim
+    (λ h. let w : refusalNumber (c .gives) ≡ refusalNumber r = rw h at n in rw (eq-eqb _ _ w) h)
+    (λ h.
+    let held : holdsOf r cs ≡ true = first-holds cs v (refusalNumber (c .gives)) r rest (rw h at n) in
+    let above : refusalNumber (c .gives) < refusalNumber r = rising-holds cs (refusalNumber (c .gives)) r rest held in
+    rw (ne-eqb _ _ (λ (w : refusalNumber (c .gives) ≡ refusalNumber r). omega arith)) held)
+    (either (c .holds))
+
+-- and no check of a lower number
+lower-holds-not : (cs : List Check) (n : ℕ) (s : Refusal) → NoneBelow n cs → refusalNumber s < n → holdsOf s cs ≡ false
+lower-holds-not [] n s b l = refl
+lower-holds-not (c ∷ cs) n s b l =
+    ⊎-elim
+    (λ q.
+    let w : refusalNumber (c .gives) ≡ refusalNumber s = eqb-true _ _ q in
+    rw q (⊎-elim (λ h. let i = b .0 h in absurd (omega arith)) (λ h. h) (either (c .holds))))
+    (λ q. rw q (lower-holds-not cs n s (b .1) l))
+    (either (eqb (refusalNumber (c .gives)) (refusalNumber s)))
 
 -- ---- the checks of every step, in the order in which they are tried
 
@@ -182,6 +222,22 @@ lowest-refuses step found seen =
     rw
     (decided-by-checks step found seen .1)
     (first-lowest (checksOf step found seen) (decided-by-checks step found seen .0) 0 (checks-rise step found seen))
+
+-- what it says that a decision gives this refusal: its own check holds, and none of a lower number
+pub record RefusedBy (r : Refusal) (cs : List Check) : Type 0 where
+  pub holds : holdsOf r cs ≡ true
+  pub lower : (s : Refusal) → refusalNumber s < refusalNumber r → holdsOf s cs ≡ false
+
+pub decided-refused-by :
+    (step : Step) (found : Found) (seen : Seen) (r : Refusal) → answerNumber (decideOf step found seen .answer) ≡ refusalNumber r
+    → RefusedBy r (checksOf step found seen)
+decided-refused-by step found seen r n =
+    record {
+      holds =
+          first-holds (checksOf step found seen) (decided-by-checks step found seen .0) 0 r (checks-rise step found seen)
+          (rw (decided-by-checks step found seen .1) at n);
+      lower = λ s. lower-holds-not (checksOf step found seen) (refusalNumber r) s (rw n at (lowest-refuses step found seen));
+    }
 
 -- a refused decision leaves what was seen
 pub decided-refused :
