@@ -870,6 +870,14 @@ static void scene_count(int slot, uint32_t q)
     on_handle(CLOSE, slot);
 }
 
+/* The step at both stations, once where they are one. */
+static void at_both(int code, int from, int to, uint32_t n)
+{
+    put(make(code, from, 0, 0, 0, n, 0));
+    if (to != from)
+        put(make(code, to, 0, 0, 0, n, 0));
+}
+
 /* Call 1,000 and 1,001, sent and received, and the rounds that count them.
  * The calls go from home or from a station away, to another station or to the same one. Another passage fills the message table, and holds an object where they go. */
 static void scene_calls(void)
@@ -915,7 +923,7 @@ static void scene_calls(void)
         if (call.number == 0 && scene_deliver(call.value).number != 0 && percent(80))
             put(make(DROP, 0, 0, (int)call.value, 0, 0, 0));
     }
-    /* a call to an object that nobody holds, delivered too late to count */
+    /* a call to an object that nobody holds, which comes in as call 1,001 */
     int unheld = to * OBJECTS_PER_SITE + (other + 1) % OBJECTS_PER_SITE;
     struct answer late = put(make(INVOKE, more, 0, unheld, handle_of(&t, slot), 0, 0));
     scene_fill(other, from, to);
@@ -931,23 +939,17 @@ static void scene_calls(void)
     for (int i = 0; i < 2; i++) {
         scene_call(slot, from, to);
         scene_deliver(late.value);
-        put(make(TICK, from, 0, 0, 0, 1, 0));
-        if (to != from)
-            put(make(TICK, to, 0, 0, 0, 1, 0));
+        at_both(TICK, from, to, 1);
     }
     /* the object was not taken: the other passage gets it */
     struct answer taken = put(make(INVOKE, from, 0, unheld, handle_of(&t, other), 0, 0));
     scene_deliver(taken.value);
     scene_count(slot, TIME_MAX);
     /* both counts where the station is down */
-    put(make(CRASH, from, 0, 0, 0, 0, 0));
-    if (to != from)
-        put(make(CRASH, to, 0, 0, 0, 0, 0));
+    at_both(CRASH, from, to, 0);
     scene_call(slot, from, to);
     scene_deliver(late.value);
-    put(make(RECOVER, from, 0, 0, 0, 0, 0));
-    if (to != from)
-        put(make(RECOVER, to, 0, 0, 0, 0, 0));
+    at_both(RECOVER, from, to, 0);
 }
 
 /* Opens a round of the kind, a refresh with that Q. */

@@ -693,7 +693,7 @@ static struct answer abort_passage(struct tables *t, const struct record *r)
 }
 
 /* "Delivered call. With a visit: its own Q, R and round stay. Without: one is made from the message's Q, R and round, no calls sent, no marks. Received grows by 1. The object is taken if unheld, then read or written. Value: the object's value before the operation."
- * Request a: "13 call count at 1,000". A call that is delivered needs no new slot, so 11 is not tried. It stood after 10, and 13 stands there. */
+ * Request a: "13 call count at 1,000". A call that is delivered needs no new slot, so 11 is not tried. 13 stands where 11 stood, after 10. */
 static struct answer deliver_call(struct tables *t, int m, uint32_t clock)
 {
     const struct message *message = &t->message[m];

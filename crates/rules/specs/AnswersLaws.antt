@@ -97,9 +97,9 @@ pub record Fine (cs : List Check) : Type 0 where
   -- 12
   pub closed : holdsOf Refusal.NotClosed cs ≡ false
   -- 13
-  pub calls : holdsOf Refusal.NoCallLeft cs ≡ false
+  pub callsLeft : holdsOf Refusal.NoCallLeft cs ≡ false
   -- 14
-  pub rounds : holdsOf Refusal.NoRoundLeft cs ≡ false
+  pub roundsLeft : holdsOf Refusal.NoRoundLeft cs ≡ false
 
 none-gives : (r : Refusal) (cs : List Check) → Clear cs → holdsOf r cs ≡ false
 none-gives r [] f = refl
@@ -121,8 +121,8 @@ clear-fine cs f =
       unheld = none-gives Refusal.Held cs f;
       room = none-gives Refusal.Full cs f;
       closed = none-gives Refusal.NotClosed cs f;
-      calls = none-gives Refusal.NoCallLeft cs f;
-      rounds = none-gives Refusal.NoRoundLeft cs f;
+      callsLeft = none-gives Refusal.NoCallLeft cs f;
+      roundsLeft = none-gives Refusal.NoRoundLeft cs f;
     }
 
 accepted-clear : (cs : List Check) (v : ℕ) → isAccepted (firstOf cs v) ≡ true → Clear cs

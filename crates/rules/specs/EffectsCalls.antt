@@ -75,7 +75,7 @@ module _ (t : Tables) (h site write object width v : ℕ) (z : Sized t)
         there = not-false _ (d .fine .there);
         early = leb-false _ _ q;
         alive = n;
-        room = rw c at (leb-false countMost (getD (u .sent) (callSite object) 0) (d .fine .calls));
+        room = rw c at (leb-false countMost (getD (u .sent) (callSite object) 0) (d .fine .callsLeft));
         clock = clock-moves d _ refl (d .fine .up) (d .fine .clock);
         visit = rw c at (only-visit d);
         message = rw c at (new-message d refl (d .value) (d .fine .room));
@@ -157,7 +157,7 @@ call-delivered-effects t m v c z e a =
       early = leb-false _ _ q;
       alive = n;
       unheld = rw o at (d .fine .unheld);
-      room = leb-false _ _ (d .fine .calls);
+      room = leb-false _ _ (d .fine .callsLeft);
       value = rw o at (d .value);
       clock = clock-moves d _ refl (d .fine .up) (d .fine .clock);
       visit = only-visit d;

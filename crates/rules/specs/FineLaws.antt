@@ -46,10 +46,10 @@ module _ (h site write object value : ℕ) (seen : Seen) (fine : Fine (invokeChe
   invoke-empty = not-false _ (fine .room)
 
   pub invoke-count : getD (seen .visit .sent) (callSite object) 0 < countMost
-  invoke-count = leb-false _ _ (fine .calls)
+  invoke-count = leb-false _ _ (fine .callsLeft)
 
 pub call-count : (m : ℕ) (c : Call) (seen : Seen) → Fine (callChecks m c seen) → calledVisit c (seen .visit) .received < countMost
-call-count m c seen fine = leb-false _ _ (fine .calls)
+call-count m c seen fine = leb-false _ _ (fine .callsLeft)
 
 pub open-count : (h : ℕ) (bad wrong : Bool) (seen : Seen) → Fine (openChecks h bad wrong seen) → seen .passage .round .number < countMost
-open-count h bad wrong seen fine = leb-false _ _ (fine .rounds)
+open-count h bad wrong seen fine = leb-false _ _ (fine .roundsLeft)

@@ -1,4 +1,4 @@
--- The rules of document 01 as definitions, in its order and words, with the laws that later work cites.
+-- The rules of document 01, with what document 02 has changed of them, as definitions in its order and words, with the laws that later work cites.
 -- Types (names only), then one file a subject; a file NAMELaws holds laws about the definitions of NAME.
 pub mod Types
 pub mod Limits
@@ -15,7 +15,6 @@ pub mod Stations
 pub mod Passages
 pub mod Rounds
 pub mod Calls
-pub mod FineLaws
 pub mod Machine
 pub mod StoredLaws
 pub mod Sane
@@ -23,12 +22,13 @@ pub mod Record
 pub mod SettledLaws
 pub mod RefusedLaws
 pub mod TwentyLaws
-pub mod SaidLaws
 pub mod RecordLaws
 pub mod RangesLaws
+pub mod FineLaws
 pub mod RangesFits
 pub mod RangesKept
 pub mod StoredObjects
+pub mod SaidLaws
 pub mod PartsLaws
 pub mod EffectsLaws
 pub mod EffectsPlaces

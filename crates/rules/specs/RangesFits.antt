@@ -53,7 +53,7 @@ pub record RoundFits (r : Round) : Type 0 where
   pub phase : phaseFits (r .kind) (r .phase) ≡ true
   pub figures : (s : ℕ) → s < 8 → FiguresFit (figuresAt r s)
 
-round-says : (r : Round) → roundInRange r ≡ true → RoundFits r
+pub round-says : (r : Round) → roundInRange r ≡ true → RoundFits r
 unfolding roundInRange
 round-says r e =
     both e λ e f.

@@ -97,6 +97,26 @@ first-holds (c ∷ cs) v k r e n =
     rw (ne-eqb _ _ (λ (w : refusalNumber (c .gives) ≡ refusalNumber r). omega arith)) held)
     (either (c .holds))
 
+-- where a check holds, its refusal is given or one of a lower number
+first-named :
+    (cs : List Check) (v k : ℕ) (r : Refusal) → isRising k cs ≡ true → holdsOf r cs ≡ true
+    → (1 ≤ answerNumber (firstOf cs v)) × (answerNumber (firstOf cs v) ≤ refusalNumber r)
+unfolding firstOf
+first-named [] v k r e h = absurd (false≢true h)
+first-named (c ∷ cs) v k r e h =
+    let i : k < refusalNumber (c .gives) = ltb-true _ _ (and-left _ (isRising (refusalNumber (c .gives)) cs) e) in
+    let rest : isRising (refusalNumber (c .gives)) cs ≡ true = and-right (ltb k (refusalNumber (c .gives))) _ e in
+    ⊎-elim
+    (λ q.
+    let w : refusalNumber (c .gives) ≡ refusalNumber r = eqb-true _ _ q in
+    let y : c .holds ≡ true = rw q at h in
+    rw y (omega arith, omega arith))
+    (λ (q : eqb (refusalNumber (c .gives)) (refusalNumber r) ≡ false).
+    let held : holdsOf r cs ≡ true = rw q at h in
+    let above : refusalNumber (c .gives) < refusalNumber r = rising-holds cs (refusalNumber (c .gives)) r rest held in
+    ⊎-elim (λ y. rw y (omega arith, omega arith)) (λ y. rw y (first-named cs v (refusalNumber (c .gives)) r rest held)) (either (c .holds)))
+    (either (eqb (refusalNumber (c .gives)) (refusalNumber r)))
+
 -- and no check of a lower number
 lower-holds-not : (cs : List Check) (n : ℕ) (s : Refusal) → NoneBelow n cs → refusalNumber s < n → holdsOf s cs ≡ false
 lower-holds-not [] n s b l = refl
@@ -238,6 +258,14 @@ decided-refused-by step found seen r n =
           (rw (decided-by-checks step found seen .1) at n);
       lower = λ s. lower-holds-not (checksOf step found seen) (refusalNumber r) s (rw n at (lowest-refuses step found seen));
     }
+
+-- and where a check holds, its refusal is given or one of a lower number
+pub decided-named :
+    (step : Step) (found : Found) (seen : Seen) (r : Refusal) → holdsOf r (checksOf step found seen) ≡ true
+    → (1 ≤ answerNumber (decideOf step found seen .answer)) × (answerNumber (decideOf step found seen .answer) ≤ refusalNumber r)
+decided-named step found seen r h =
+    rw (decided-by-checks step found seen .1)
+    (first-named (checksOf step found seen) (decided-by-checks step found seen .0) 0 r (checks-rise step found seen) h)
 
 -- a refused decision leaves what was seen
 pub decided-refused :

@@ -82,6 +82,22 @@ fullTable =
     ∷ Step.Deliver 17 gives 0  -- clock 0: 37
     ∷ [])
 
+-- home 5, slot 14: a refresh closes, 32 calls fill the table, and its word is refused by 11 until one of them is dropped
+abbrev pub fullTelling : List Line
+fullTelling =
+    (Step.Begin 5 14 1000 1010 gives 14  -- clock 5: 1
+    ∷ Step.Invoke 14 5 0 1 0 gives 0  -- 2
+    ∷ Step.Deliver 0 gives 0  -- clock 0: 3
+    ∷ Step.Refresh 14 1000 1010 gives 1  -- clock 5: 3
+    ∷ Step.Ask 14 0 gives 0  -- 4
+    ∷ Step.Deliver 0 gives 0  -- clock 0: 5
+    ∷ Step.Deliver 0 gives 0  -- clock 5: 6
+    ∷ Step.Close 14 gives 2  -- 7
+    ∷ [])
+    ++ callsUpTo (Step.Invoke 14 5 0 1 0) 32  -- 8 to 39
+    ++ (Step.Tell 14 0 refusedBy 11 ∷ Step.Drop 31 gives 0 ∷ Step.Tell 14 0 gives 31  -- 40
+    ∷ [])
+
 -- home 4, slot 9: a question, an answer and a word above clock 1,000,000 carry it from station to station
 abbrev pub lateClock : List Line
 lateClock =
@@ -167,6 +183,7 @@ mailRows =
     ∷ mail 17 0
     ∷ mail 31 1
     ∷ [])
+    ∷ lines fullTelling (clock 5 40 ∷ clock 0 5 ∷ sent 5 14 (33 ∷ 0 ∷ 0 ∷ 0 ∷ 0 ∷ 0 ∷ 0 ∷ 0 ∷ []) ∷ round 14 1 Phase.Two ∷ mail 30 1 ∷ mail 31 1 ∷ [])
     -- a round above clock 1,000,000
     ∷ lines lateClock (clock 4 1000008 ∷ clock 2 1000010 ∷ visit 2 9 4000000 4000010 1 1 ∷ visit 4 9 4000000 4000010 1 0 ∷ mail 0 0 ∷ [])
     ∷ []

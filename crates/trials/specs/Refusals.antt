@@ -235,7 +235,7 @@ countsAt n =
       round =
           record {
             number = n;
-            kind = Kind.Prepare;
+            kind = Kind.Refresh 500 600;
             phase = Phase.None;
             answered = 0;
             figures = noRound .figures;
