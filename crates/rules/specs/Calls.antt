@@ -29,7 +29,7 @@ badCall h site write object value =
 abbrev pub isSentOut : ℕ → Visit → Bool
 isSentOut object v = leb countMost (getD (v .sent) (callSite object) 0)
 
--- 8: "invoke ..: clock ≥ Q ..; invoke ..: visit dead". 13 stands "after 11, so a full table is named first"
+-- 8: "invoke ..: clock ≥ Q ..; invoke ..: visit dead". 11: "no empty message slot"; 13 stands "after 11, so a full table is named first"
 abbrev pub invokeChecks : ℕ → ℕ → ℕ → ℕ → ℕ → Seen → List Check
 invokeChecks h site write object value seen =
     refuse Refusal.BadField (badCall h site write object value) ∷ noPassage h seen ∷ siteDown seen

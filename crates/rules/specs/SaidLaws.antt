@@ -10,7 +10,7 @@ use mathlib.Core.List.{List}
 use lib.Dec.{eqb, leb}
 use lib.ListN.{getD}
 use borrow.Author.Tests.{leb-true, ltb-false}
-use Rattle.rules.specs.Types.{Passage, Visit, Call, Body, Message, Tables, Step, Refusal, Check, Seen, Places}
+use Rattle.rules.specs.Types.{Passage, Visit, Call, Body, Message, Tables, Step, Refusal, Check, Seen}
 use Rattle.rules.specs.Limits.{countMost, messageMost}
 use Rattle.rules.specs.Tables.{objectAt, passageAt, visitAt, messageAt, bankAt, objectSite, slotOf, pastObject}
 use Rattle.rules.specs.Ranges.{inRange}
@@ -20,7 +20,7 @@ use Rattle.rules.specs.AnswersLaws.{holdsOf}
 use Rattle.rules.specs.Parts.{isEmpty, isHeldByOther}
 use Rattle.rules.specs.Checks.{badMessage}
 use Rattle.rules.specs.Calls.{badCall, calledVisit, callChecks}
-use Rattle.rules.specs.Machine.{lookOf, lowestEmpty, placesOf, seenOf, foundOf, headOf, turnCount, stepInRangeOf, stepOf}
+use Rattle.rules.specs.Machine.{lookOf, lowestEmpty, placesOf, seenOf, foundOf, decideOf, headOf, turnCount, stepInRangeOf, stepOf}
 use Rattle.rules.specs.Record.{flatOf, isStep}
 use Rattle.rules.specs.RangesLaws.{in-range-places, seen-in-range, placed-places}
 use Rattle.rules.specs.RangesFits.{round-says, CallFits, call-range-says, SeenFits, seen-says}
@@ -41,6 +41,15 @@ tries t step = checksOf step (foundOf t (placesOf t (lookOf step))) (sees t step
 fits-of : (t : Tables) (step : Step) → inRange t ≡ true → SeenFits (sees t step)
 fits-of t step range = seen-says (sees t step) (seen-in-range t (placesOf t (lookOf step)) range (placed-places t (lookOf step)))
 
+-- on tables in range a step has the number of its decision
+decided-number :
+    (t : Tables) (step : Step) → inRange t ≡ true
+    → answerNumber (stepOf t step .answer)
+    ≡ answerNumber (decideOf step (foundOf t (placesOf t (lookOf step))) (sees t step) .answer)
+unfolding stepOf stepInRangeOf headOf
+decided-number t step range =
+    rw range (number-after-turns (lookOf step .trip) (headOf t step) (turnCount (lookOf step .trip) (headOf t step .answer)))
+
 -- what it says that a step gives this refusal: so does its decision, on tables in range
 record Refused (t : Tables) (step : Step) (r : Refusal) : Type 0 where
   by : RefusedBy r (tries t step)
@@ -50,14 +59,11 @@ refused :
     (t : Tables) (step : Step) (r : Refusal) → eqb (refusalNumber r) 20 ≡ false
     → answerNumber (stepOf t step .answer) ≡ refusalNumber r
     → Refused t step r
-unfolding stepOf stepInRangeOf headOf
 refused t step r other n =
-    let at : Places = placesOf t (lookOf step) in
-    let turns = number-after-turns (lookOf step .trip) (headOf t step) (turnCount (lookOf step .trip) (headOf t step .answer)) in
     ⊎-elim
     (λ range.
     record {
-      by = decided-refused-by step (foundOf t at) (seenOf t at) r (sym turns ∙ (rw range at n));
+      by = decided-refused-by step (foundOf t (placesOf t (lookOf step))) (sees t step) r (sym (decided-number t step range) ∙ n);
       range = range;
     })
     (λ range. absurd (false≢true (sym other ∙ (rw (sym n) (twenty-of-step t step ∙ rw range)))))
@@ -232,11 +238,8 @@ module _ (t : Tables) where
 
   module _ (range : inRange t ≡ true) where
     refused-up-to : (step : Step) (r : Refusal) → holdsOf r (tries t step) ≡ true → RefusedUpTo step (refusalNumber r)
-    unfolding stepOf stepInRangeOf headOf
     refused-up-to step r h =
-        let at : Places = placesOf t (lookOf step) in
-        let turns = number-after-turns (lookOf step .trip) (headOf t step) (turnCount (lookOf step .trip) (headOf t step .answer)) in
-        rw range (rw turns (decided-named step (foundOf t at) (seenOf t at) r h))
+        rw (decided-number t step range) (decided-named step (foundOf t (placesOf t (lookOf step))) (sees t step) r h)
 
     pub eleven-when : (step : Step) → TableFull t step → RefusedUpTo step 11
     eleven-when step f =

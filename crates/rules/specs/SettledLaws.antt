@@ -117,7 +117,7 @@ first-named (c ∷ cs) v k r e h =
     ⊎-elim (λ y. rw y (omega arith, omega arith)) (λ y. rw y (first-named cs v (refusalNumber (c .gives)) r rest held)) (either (c .holds)))
     (either (eqb (refusalNumber (c .gives)) (refusalNumber r)))
 
--- and no check of a lower number
+-- where no check below n holds, that of a refusal below n does not
 lower-holds-not : (cs : List Check) (n : ℕ) (s : Refusal) → NoneBelow n cs → refusalNumber s < n → holdsOf s cs ≡ false
 lower-holds-not [] n s b l = refl
 lower-holds-not (c ∷ cs) n s b l =
