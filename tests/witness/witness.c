@@ -9,6 +9,7 @@
  *   witness --pairs < SHEET    the same, and on standard error how often each pair of step and refusal number occurred
  *
  * With WITNESS_NO_MAIN defined there is no main, so that another file can include this one and use the machine.
+ * With WITNESS_SHEET defined too, that file has the reader of a sheet as well.
  */
 #include <stdbool.h>
 #include <stdint.h>
@@ -978,7 +979,7 @@ static enum met what_is_met(const struct tables *t, const struct record *r)
     }
 }
 
-#ifndef WITNESS_NO_MAIN
+#if !defined WITNESS_NO_MAIN || defined WITNESS_SHEET
 
 /* ------------------------------------------------------------- the sheet */
 
@@ -1000,6 +1001,10 @@ static int read_sheet(const uint8_t *bytes, size_t length, size_t *first, size_t
     *count = distance / RECORD;
     return 0;
 }
+
+#endif
+
+#ifndef WITNESS_NO_MAIN
 
 /* ------------------------------------------------------- counting the pairs */
 

@@ -250,15 +250,14 @@ deliverOf m seen = deliverBodyOf (seen .message .body) m seen
 
 -- ---- 12. drop c=message: it is lost. Acts at no site.
 
+abbrev pub dropChecks : ℕ → Seen → List Check
+dropChecks m seen = refuse Refusal.BadField (badMessage m) ∷ noMail seen ∷ []
+
 abbrev pub lost : Seen → Seen
 lost seen = leftMessage seen noMessage
 
 abbrev pub dropDone : ℕ → Seen → Decision
-dropDone m seen =
-    record {
-      answer = firstOf (refuse Refusal.BadField (badMessage m) ∷ noMail seen ∷ []) 0;
-      left = lost seen;
-    }
+dropDone m seen = record { answer = firstOf (dropChecks m seen) 0; left = lost seen }
 
 unfoldable pub dropOf : ℕ → Seen → Decision
 dropOf m seen = settleOf (dropDone m seen) seen

@@ -1,20 +1,21 @@
--- What an accepted invoke and the delivery of its call needed and left. Assumes nothing.
+-- What an accepted invoke, the delivery of its call and a drop needed and left. Assumes nothing.
 use Prim.Native.Nat.{ℕ, _%_, _≤_, _<_}
 use native.Mathlib.Omega.{arith}
 use mathlib.Core.Path.{_≡_, refl, ap, _∙_}
 use mathlib.Core.Bool.{true, false}
 use mathlib.Core.List.{List}
 use lib.ListN.{getD}
-use borrow.Author.Tests.{leb-false, ltb-false}
+use lib.Dec.{ltb}
+use borrow.Author.Tests.{leb-false, ltb-false, le-ltb}
 use Rattle.rules.specs.Types.{Visit, Call, Body, Message, Tables, Step, Answer, Check, MailAt, Places, Seen}
-use Rattle.rules.specs.Limits.{widthMost, countMost}
+use Rattle.rules.specs.Limits.{widthMost, countMost, messageMost}
 use Rattle.rules.specs.LoopsLaws.{not-false}
 use Rattle.rules.specs.Tables.{siteAt, objectAt, passageAt, visitAt, messageAt, bankAt, objectSite, slotOf, pastObject, noMessage}
 use Rattle.rules.specs.Ranges.{inRange}
 use Rattle.rules.specs.Answers.{isAccepted, firstOf, settleOf}
-use Rattle.rules.specs.Parts.{nextClock, deliveryClock, countSent, countReceived, isHeldByOther, taken, operated, plainMessage}
+use Rattle.rules.specs.Parts.{nextClock, deliveryClock, countSent, countReceived, isHeldByOther, isEmpty, taken, operated, plainMessage}
 use Rattle.rules.specs.Checks.{badMessage}
-use Rattle.rules.specs.Calls.{callSite, invokeChecks, callOf, invoked, invokeOf, mailClock, calledVisit, calledObject, callChecks, called, deliverCallOf, deliverBodyOf}
+use Rattle.rules.specs.Calls.{callSite, invokeChecks, callOf, invoked, invokeOf, mailClock, calledVisit, calledObject, callChecks, called, deliverCallOf, deliverBodyOf, dropChecks, lost, dropOf}
 use Rattle.rules.specs.Machine.{lookOf, bodyBank, placesOf, seenOf, decideOf, stepOf}
 use Rattle.rules.specs.StoredLaws.{Sized}
 use Rattle.rules.specs.StoredObjects.{seen-object}
@@ -22,7 +23,7 @@ use Rattle.rules.specs.RangesLaws.{neither}
 use Rattle.rules.specs.FineLaws.{CallFields, call-fields}
 use Rattle.rules.specs.RangesFits.{CallFits, call-range-says, MessageFits}
 use Rattle.rules.specs.SettledLaws.{delivered-named}
-use Rattle.rules.specs.EffectsLaws.{OnlyVisit, OnlyMessage, OnlyObject, ClockMoves, accepted-in-range, accepted-decided, Done, done-at, only-visit, only-message, only-object, passages-stay, objects-stay, clock-moves}
+use Rattle.rules.specs.EffectsLaws.{OnlyVisit, OnlyMessage, OnlyObject, ClockMoves, accepted-in-range, answered-at, accepted-decided, Done, done-at, only-visit, only-message, only-object, sites-stay, passages-stay, visits-stay, objects-stay, clock-moves}
 use Rattle.rules.specs.EffectsPlaces.{message-fits, given-places, mail-places, InUse, in-use, NewMessage, new-message}
 
 -- ---- 3. invoke: a call goes out from the visit at this site, for an object, to read it or to write this width
@@ -165,3 +166,47 @@ call-delivered-effects t m v c z e a =
       object = only-object d (c .object) _ s (rw o);
       passages = passages-stay d refl;
     }
+
+-- ---- 12. drop
+
+pub record Dropped (t t′ : Tables) (m v : ℕ) : Type 0 where
+  pub below : m < 32
+  pub full : isEmpty (messageAt t m .body) ≡ false
+  pub value : v ≡ 0
+  pub message : OnlyMessage t t′ m noMessage
+  pub sites : t′ .sites ≡ t .sites
+  pub passages : t′ .passages ≡ t .passages
+  pub visits : t′ .visits ≡ t .visits
+  pub objects : t′ .objects ≡ t .objects
+
+module _ (t : Tables) (m v : ℕ) (z : Sized t) (a : stepOf t (Step.Drop m) .answer ≡ Answer.Accepted v) where
+  drop-done :
+      (at : Places) → placesOf t (lookOf (Step.Drop m)) ≡ at
+      → Done t (stepOf t (Step.Drop m) .tables) v at (dropChecks m (seenOf t at)) 0 (lost (seenOf t at))
+  unfolding decideOf dropOf
+  drop-done at p = done-at t (Step.Drop m) v at (dropChecks m) (λ seen. 0) lost refl z a p refl
+
+  pub drop-effects : Dropped t (stepOf t (Step.Drop m) .tables) m v
+  drop-effects =
+      let e : ltb messageMost m ≡ false = drop-done _ refl .fine .fields in
+      let below : m < 32 = omega (arith, ltb-false) in
+      let d = drop-done _ (mail-places t m (accepted-in-range t (Step.Drop m) (ap isAccepted a)) below) in
+      record {
+        below = below;
+        full = d .fine .found;
+        value = d .value;
+        message = only-message d;
+        sites = sites-stay d refl;
+        passages = passages-stay d refl;
+        visits = visits-stay d refl;
+        objects = objects-stay d refl;
+      }
+
+-- a message that is there can be dropped
+pub drop-accepted :
+    (t : Tables) (m : ℕ) → inRange t ≡ true → m < 32 → isEmpty (messageAt t m .body) ≡ false
+    → stepOf t (Step.Drop m) .answer ≡ Answer.Accepted 0
+unfolding decideOf dropOf firstOf
+drop-accepted t m e below full =
+    answered-at t (Step.Drop m) _ refl e (mail-places t m e below)
+    ∙ (rw (le-ltb messageMost m (omega arith), full))

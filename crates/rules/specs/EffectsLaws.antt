@@ -124,6 +124,12 @@ pub accepted-decided :
     decideOf step (foundOf t at) (seenOf t at) .answer ≡ Answer.Accepted v
 accepted-decided t step v f a = sym (ap (λ (o : Outcome). o .answer) (accepted-head t step f (ap isAccepted a))) ∙ a
 
+-- the other way round: on tables in range a step answers what its decision at its places answers
+pub answered-at :
+    (t : Tables) (step : Step) (at : Places) → lookOf step .trip ≡ Trip.Nowhere → inRange t ≡ true → placesOf t (lookOf step) ≡ at
+    → stepOf t step .answer ≡ decideOf step (foundOf t at) (seenOf t at) .answer
+answered-at t step at f e p = ap (λ (o : Outcome). o .answer) (flat-head t step f e ∙ head-at-places t step ∙ ap (headAt t step) p)
+
 -- every place but the step's own is as it was, whether it was accepted or refused
 pub others-stay : (t : Tables) (step : Step) → lookOf step .trip ≡ Trip.Nowhere → OthersStay t (stepOf t step .tables) (placesOf t (lookOf step))
 others-stay t step f =

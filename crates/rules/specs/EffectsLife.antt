@@ -4,20 +4,21 @@ use native.Mathlib.Omega.{arith}
 use mathlib.Core.Path.{_≡_, refl, ap, _∙_}
 use mathlib.Core.Bool.{true, false, _||_}
 use lib.Dec.{ltb}
-use borrow.Author.Tests.{ltb-false, leb-false}
+use borrow.Author.Tests.{ltb-false, leb-false, le-ltb, eq-eqb}
 use Rattle.rules.specs.Types.{Passage, Tables, Step, Answer, MailAt, Places}
-use Rattle.rules.specs.Limits.{timeMost}
+use Rattle.rules.specs.Limits.{clockMost, timeMost}
 use Rattle.rules.specs.Loops.{someUpTo}
 use Rattle.rules.specs.LoopsLaws.{not-false, some-none}
 use Rattle.rules.specs.Tables.{siteAt, passageAt, visitAt, messageAt, handleOf, slotOf, generationOf, freeSlot}
-use Rattle.rules.specs.Answers.{isAccepted}
+use Rattle.rules.specs.Ranges.{inRange}
+use Rattle.rules.specs.Answers.{isAccepted, firstOf}
 use Rattle.rules.specs.Parts.{nextClock, isFree, isRunning, isOver, abortedPassage, whereThere, quieted, newVisit}
 use Rattle.rules.specs.Checks.{badSite, badTimes}
 use Rattle.rules.specs.Passages.{beginChecks, begunPassage, begun, beginOf, abortChecks, aborted, abortOf, retireChecks, nextGeneration, retired, retireOf}
 use Rattle.rules.specs.Machine.{lookOf, placesOf, seenOf, isMessageOf, remains, decideOf, stepOf}
 use Rattle.rules.specs.StoredLaws.{Sized}
 use Rattle.rules.specs.RangesLaws.{neither}
-use Rattle.rules.specs.EffectsLaws.{OnlyPassage, OnlyVisit, ClockMoves, accepted-in-range, Done, done-at, only-passage, only-visit, sites-stay, visits-stay, messages-stay, objects-stay, clock-moves}
+use Rattle.rules.specs.EffectsLaws.{OnlyPassage, OnlyVisit, ClockMoves, accepted-in-range, answered-at, Done, done-at, only-passage, only-visit, sites-stay, visits-stay, messages-stay, objects-stay, clock-moves}
 use Rattle.rules.specs.EffectsPlaces.{home-places, given-places, InUse, in-use}
 
 -- ---- 2. begin
@@ -113,6 +114,17 @@ abort-effects t h v z a =
       messages = messages-stay d refl;
       objects = objects-stay d refl;
     }
+
+-- a running passage can be aborted wherever its home is up and has a clock that may move
+pub abort-accepted :
+    (t : Tables) (h : ℕ) → inRange t ≡ true → InUse h (passageAt t (slotOf h)) → isRunning (passageAt t (slotOf h) .status) ≡ true
+    → siteAt t (passageAt t (slotOf h) .home) .up ≡ true
+    → nextClock (siteAt t (passageAt t (slotOf h) .home)) ≤ clockMost
+    → stepOf t (Step.Abort h) .answer ≡ Answer.Accepted 0
+unfolding decideOf abortOf firstOf
+abort-accepted t h e n runs up fits =
+    answered-at t (Step.Abort h) _ refl e (home-places t MailAt.Nowhere h e)
+    ∙ (rw (le-ltb _ _ (n .handle), n .used, eq-eqb _ _ (n .generation), up, runs, le-ltb _ _ fits))
 
 -- ---- 16. retire
 

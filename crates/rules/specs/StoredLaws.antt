@@ -1,5 +1,5 @@
 -- Laws of storing: what each place holds afterwards, what stays, and that storing what was seen changes nothing. Assumes nothing.
-use Prim.Native.Nat.{ℕ, _<_, zero, suc}
+use Prim.Native.Nat.{ℕ, _≤_, _<_, zero, suc}
 use native.Mathlib.Omega.{arith}
 use mathlib.Core.Path.{_≡_, refl, sym}
 use mathlib.Core.Logic.{_≢_, ⊎-elim}
@@ -20,6 +20,11 @@ pub record Sized (t : Tables) : Type 0 where
   pub passages : length (t .passages) ≡ 16
   pub visits : length (t .visits) ≡ 128
   pub messages : length (t .messages) ≡ 32
+
+-- tables as a program holds them: each table has its length, and a generation is one byte
+pub record Storable (t : Tables) : Type 0 where
+  pub sized : Sized t
+  pub generations : (p : ℕ) → passageAt t p .generation ≤ 255
 
 -- places that exist
 pub record Placed (at : Places) : Type 0 where

@@ -1,5 +1,5 @@
 -- A run under way: its tables are in range, so that a record on them is tried without number 20, and each record adds its answer. Assumes nothing.
-use Prim.Native.Nat.{ℕ, zero, suc, _+_, _*_, _≤_, _<_, zero-le}
+use Prim.Native.Nat.{ℕ, zero, suc, _+_, _*_, _/_, _≤_, _<_, zero-le}
 use native.Mathlib.Omega.{arith}
 use native.Mathlib.Numerals.{add-one}
 use mathlib.Core.Path.{_≡_}
@@ -16,8 +16,8 @@ use Rattle.rules.specs.Record.{stepOfRecord, readingOf, recordInRangeOf, stepRe
 use Rattle.rules.specs.Sheet.{recordAt}
 use Rattle.rules.specs.Answers.{answerNumber, answerValue}
 use Rattle.rules.specs.Listing.{printedUpTo}
-use Rattle.buffer.specs.Text.{Puts, put-one, put-both}
-use Rattle.running.specs.Answered.{answerAt, answeredUpTo}
+use Rattle.buffer.specs.Text.{Puts, put-none, put-one, put-both}
+use Rattle.running.specs.Answered.{answerAt, answeredUpTo, roomFor, PutsAnswers}
 
 -- on tables in range number 20 is not met
 pub record-no-twenty : (t : Tables) (b : List ℕ) → inRange t ≡ true → stepRecordOf t b ≡ recordInRangeOf t b
@@ -64,13 +64,30 @@ put-two buf at x y h =
     let l : at + 1 < length (set buf at x) = rw (length-set buf at x) (omega arith) in
     rw (← e) (put-both (omega arith) (put-one buf at x (omega arith)) (put-one (set buf at x) (at + 1) y l))
 
+-- before the first record no answer is put
+pub answered-none : (part buf : List ℕ) → PutsAnswers part 0 buf buf
+unfolding answeredUpTo
+answered-none part buf =
+    let e : roomFor buf 0 ≡ 0 = omega arith in
+    rw e (put-none buf 0)
+
 -- an answer more, put behind those of the records before
 pub answered-next :
-    (part buf mid last : List ℕ) (n : ℕ) (answer : Answer) → Puts buf 0 (answeredUpTo part n) mid (2 * n)
+    (part buf mid last : List ℕ) (n : ℕ) (answer : Answer) → n < length buf / 2
+    → PutsAnswers part n buf mid
     → Puts mid (2 * n) (answerNumber answer ∷ answerValue answer ∷ []) last (2 * n + 2)
     → answer ≡ answerAt part n
-    → Puts buf 0 (answeredUpTo part (n + 1)) last (2 * (n + 1))
+    → PutsAnswers part (n + 1) buf last
 unfolding answeredUpTo
-answered-next part buf mid last n answer p q e =
+answered-next part buf mid last n answer room p q e =
     let d : 2 * n + 2 ≡ 2 * (n + 1) = omega arith in
-    rw (← d, add-one n, ← e) (put-both zero-le p q)
+    let f : roomFor buf n ≡ n = omega arith in
+    let g : roomFor buf (n + 1) ≡ n + 1 = omega arith in
+    rw (g, ← d, add-one n, ← e) (put-both zero-le (rw f at p) q)
+
+-- an answer more, for which there is no room
+pub answered-full :
+    (part buf mid : List ℕ) (n : ℕ) → length buf / 2 ≤ n → PutsAnswers part n buf mid → PutsAnswers part (n + 1) buf mid
+answered-full part buf mid n full p =
+    let e : roomFor buf (n + 1) ≡ roomFor buf n = omega arith in
+    rw e p

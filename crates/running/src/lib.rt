@@ -1,5 +1,6 @@
 // The machine at work: the records of a part, one after the other, from the start.
 // Who wants a listing, or words, or figures, takes the answers from here and knows nothing of the tables.
+// Who wants the tables that a part leaves takes them from here too.
 use answers::answer_number;
 use decisions::turns::turn_count;
 use parts::message::no_message;
@@ -14,18 +15,23 @@ use rules::looking::Found;
 use rules::looking::Seen;
 use rules::outcomes::Answer;
 use rules::outcomes::Refusal;
+use rules::tables::Tables;
 use sheet::record_at;
 use start::start;
 use work::decide_turn;
 use work::reading_look;
 use work::scan_count;
 use work::turn_look;
-ghost use Prim.Native.Nat.{_+_, _*_, _≤_};
+ghost use Prim.Native.Nat.{_+_, _*_, _/_, _≤_};
+ghost use mathlib.Core.Path.{_≡_};
 ghost use mathlib.Core.List.{[], _∷_};
 ghost use lib.ListN.{length};
 ghost use Rattle.rules.specs.Answers.{answerNumber, answerValue};
+ghost use Rattle.rules.specs.Runs.{runRecordsOf};
+ghost use Rattle.rules.specs.Sheet.{recordsUpTo};
+ghost use Rattle.rules.specs.Tables.{start};
 ghost use Rattle.buffer.specs.Text.{Puts};
-ghost use Rattle.running.specs.Answered.{answeredUpTo};
+ghost use Rattle.running.specs.Answered.{Ran};
 
 // The answer of a record, as two numbers: a refusal has its number and value 0, an accepted step number 0 and its value.
 fn put_answer(out: &mut [u64], at: usize, answer: Answer)
@@ -41,15 +47,18 @@ fn put_answer(out: &mut [u64], at: usize, answer: Answer)
     out[at + 1] = value;
 }
 
-// The answers of the first n records of a part, run from the start: two numbers each, its refusal number and its value.
-// The tables live here and nowhere else: their elements are read and stored in place, and no table is copied.
+// The tables that the first n records of a part leave, run from the start.
+// Their answers are put at the front of the list, as many as it has room for: two numbers each, the refusal number and the value.
+// The tables live here until the last record: their elements are read and stored in place, and no table is copied.
 // Tables cannot be lent to another function, so this is one long function.
 // A record's work goes by turns, and one body serves the step's own turn and the slots of a sweep or a crash.
 // Only the step's own turn, which is the first, reads a message and stores one.
-pub fn run(part: &[u8], n: usize, out: &mut [u64])
-    requires { ⌜ (16 * n ≤ length (now part)) × (2 * n ≤ length (now out)) ⌝ }
-    ensures { λ r. ⌜ Puts (now (out .entry)) 0 (answeredUpTo (now (part .entry)) n) (now (out .exit)) (2 * n) ⌝ }
+pub fn run(part: &[u8], n: usize, out: &mut [u64]) -> Tables
+    requires { ⌜ 16 * n ≤ length (now part) ⌝ }
+    ensures { λ r. ⌜ Ran (now (part .entry)) n (now (out .entry)) (now (out .exit)) r ⌝ }
 {
+    // The answers that have room.
+    let room = out.len() / 2;
     let mut t = start();
     let mut i: usize = 0;
     while i < n {
@@ -144,7 +153,18 @@ pub fn run(part: &[u8], n: usize, out: &mut [u64])
             last = 1 + turn_count(trip, next);
             turn += 1;
         }
-        put_answer(out, 2 * i, answer);
+        if i < room {
+            put_answer(out, 2 * i, answer);
+        }
         i += 1;
     }
+    t
+}
+
+// The tables that the records of a part leave, run from the start. Their answers are put nowhere, for want of room.
+pub fn tables_after(part: &[u8]) -> Tables
+    ensures { λ r. ⌜ r ≡ runRecordsOf start (recordsUpTo (now (part .entry)) (length (now (part .entry)) / 16)) ⌝ }
+{
+    let mut none: [u64; 0] = [];
+    run(part, part.len() / 16, &mut none)
 }

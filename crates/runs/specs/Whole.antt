@@ -3,6 +3,7 @@ pub mod Definitions
 pub mod Release
 pub mod Running
 pub mod RestsOn
+pub mod HeldTogether
 pub mod Whole
 pub mod CommitIsWhole
 pub mod NoCrash

@@ -42,7 +42,7 @@ fn put_rest(out: &mut [u8], at: usize, rest: [Piece; 9], n: usize) -> usize
 }
 
 // The words of a step.
-fn put_step(out: &mut [u8], at: usize, s: Step) -> usize
+pub fn put_step(out: &mut [u8], at: usize, s: Step) -> usize
     requires { ⌜ at + 108 ≤ length (now out) ⌝ }
     ensures { λ x. ⌜ Puts (now (out .entry)) at (stepText s) (now (out .exit)) x ⌝ }
 {

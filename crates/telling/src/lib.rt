@@ -72,7 +72,7 @@ fn put_phrase(out: &mut [u8], at: usize, number: u64) -> usize
 }
 
 // An equals sign and the value of an accepted record.
-fn put_accepted(out: &mut [u8], at: usize, value: u64) -> usize
+pub fn put_accepted(out: &mut [u8], at: usize, value: u64) -> usize
     requires { ⌜ at + 56 ≤ length (now out) ⌝ }
     ensures { λ x. ⌜ Puts (now (out .entry)) at (acceptedTold value) (now (out .exit)) x ⌝ }
 {
@@ -81,7 +81,7 @@ fn put_accepted(out: &mut [u8], at: usize, value: u64) -> usize
 }
 
 // The number of a refusal and what it means.
-fn put_refused(out: &mut [u8], at: usize, number: u64) -> usize
+pub fn put_refused(out: &mut [u8], at: usize, number: u64) -> usize
     requires { ⌜ at + 56 ≤ length (now out) ⌝ }
     ensures { λ x. ⌜ Puts (now (out .entry)) at (refusedTold number) (now (out .exit)) x ⌝ }
 {

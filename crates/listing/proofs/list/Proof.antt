@@ -22,13 +22,6 @@ returns c =
     (listing-refused (c .before .before .before .before .before .before .args .sheet .now) (c .before .before .before .before .sheet-answer .result) (c .before .before .before .before .sheet-answer .ensures) (c .before .before .before .match .keys2)) in
     (rw q at (c .put-sheet-line .ensures), omega (arith, c .put-sheet-line .kept .0))
 
-run-requires : tie.Need-run-requires
-run-requires c κs =
-    let sheet = c .before .before .before .before .before .before .args .sheet .now in
-    let taken = sym (c .before .before .before .before .sheet-answer .ensures) ∙ c .before .before .enum-told .given .1 in
-    let few : length (c .before .sheet-records .result .now) / 16 ≤ 4095 = rw (c .before .sheet-records .ensures) (taken-few sheet taken) in
-    (omega arith, omega (arith, few))
-
 put-lines-requires : tie.Need-put-lines-requires
 put-lines-requires c κs =
     let ran = c .before .before .before in
@@ -38,7 +31,7 @@ put-lines-requires c κs =
     let taken = sym (found .before .before .before .sheet-answer .ensures) ∙ found .before .enum-told .given .1 in
     let l : length (start .args .out .now) ≡ 262144 = search needs in
     let few : length part / 16 ≤ 4095 = rw (found .sheet-records .ensures) (taken-few (start .args .sheet .now) taken) in
-    (omega (arith, few, ran .run .kept .1 .1 .0), omega (arith, few), answers-held part (length part / 16) _ _ (ran .run .ensures))
+    (omega (arith, few, ran .run .kept .1 .1 .0), omega (arith, few), answers-held part (length part / 16) _ _ (omega (arith, few)) (ran .run .ensures))
 
 returns-2 : tie.Need-returns-2
 returns-2 c =
@@ -59,7 +52,6 @@ list-spec =
     (λ c κs. search needs) (λ c. search needs) (λ c κs. search needs) (λ c κs. search needs)
     returns
     (λ c κs. search needs) (λ c. search needs)
-    run-requires
-    (λ c. search needs)
+    (λ c κs. search needs) (λ c. search needs)
     put-lines-requires
     returns-2)

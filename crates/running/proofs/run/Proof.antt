@@ -1,5 +1,5 @@
--- `running::run` meets its contract. The tables stand as the definition has them up to the record; the turns of a record are its work, and the last leaves its outcome. Assumes nothing.
-use Prim.Native.Nat.{_*_, _-_, _%_, _≤_, _<_}
+-- `running::run` meets its contract. The tables stand as the definition has them up to the record; the turns of a record are its work, and the last leaves its outcome. Its answer is put where there is room. Assumes nothing.
+use Prim.Native.Nat.{_+_, _*_, _-_, _%_, _≤_, _<_}
 use native.Mathlib.Omega.{arith}
 use native.Mathlib.Numerals.{add-one}
 use mathlib.Core.Path.{_≡_, refl, _∙_}
@@ -13,48 +13,48 @@ use Rattle.rules.specs.Parts.{isEmpty}
 use Rattle.rules.specs.Tables.{messageAt, visitAt}
 use Rattle.rules.specs.Machine.{lowestEmpty, slotPlace, isMessageOf, remains, stored}
 use Rattle.rules.specs.Listing.{printedUpTo}
-use Rattle.buffer.specs.Text.{Puts, put-none}
+use Rattle.rules.specs.ListingLaws.{printed-is-run}
 use Rattle.decisions.specs.TurnsLaws.{turn-count-most}
 use Rattle.work.specs.Work.{readingLook, scanCount, turnMessage, turnStored}
 use Rattle.work.specs.WorkLaws.{placesBy, scan-most, Working, Turned, working-starts, working-counts, working-most, working-sane, working-next, working-done, rest-found}
-use Rattle.running.specs.Answered.{answeredUpTo}
-use Rattle.running.proofs.Printed.{printed-in-range, outcome-next, answered-next}
+use Rattle.running.specs.Answered.{PutsAnswers}
+use Rattle.running.proofs.Printed.{printed-in-range, outcome-next, answered-none, answered-next, answered-full}
 use Rattle.running.proofs.run.Statement.{statement}
 use Rattle.running.proofs.run.Tie as tie
 
 abbrev Inv-loop2 : tie.InvT-loop2
-Inv-loop2 part n out t i reading first trip scans asked empty₀ rest₀ k₀ empty rest k =
+Inv-loop2 part n out room t i reading first trip scans asked empty₀ rest₀ k₀ empty rest k =
     (empty ≡ firstUpTo (λ m. isEmpty (messageAt t m .body)) k)
     × (rest ≡ someUpTo (λ j. isMessageOf asked (messageAt t j) || visitAt t (j % 8) asked .there) k)
     × (k ≤ scans)
     × (scans ≤ 32)
 
 abbrev μ-loop2 : tie.MeasureT-loop2
-μ-loop2 part n out t i reading first trip scans asked empty₀ rest₀ k₀ empty rest k =
+μ-loop2 part n out room t i reading first trip scans asked empty₀ rest₀ k₀ empty rest k =
     scans - k
 
 abbrev Inv-loop3 : tie.InvT-loop3
-Inv-loop3 part n out t₀ i reading first trip scans asked empty rest k answer₀ turn₀ last₀ t answer turn last =
+Inv-loop3 part n out room t₀ i reading first trip scans asked empty rest k answer₀ turn₀ last₀ t answer turn last =
     Working t₀ reading t answer turn last
 
 abbrev μ-loop3 : tie.MeasureT-loop3
-μ-loop3 part n out t₀ i reading first trip scans asked empty rest k answer₀ turn₀ last₀ t answer turn last =
+μ-loop3 part n out room t₀ i reading first trip scans asked empty rest k answer₀ turn₀ last₀ t answer turn last =
     17 - turn
 
 abbrev Inv-loop : tie.InvT-loop
-Inv-loop part n out₀ t₀ i₀ out t i =
+Inv-loop part n out₀ room t₀ i₀ out t i =
     (t ≡ printedUpTo part i .tables)
-    × Puts out₀ 0 (answeredUpTo part i) out (2 * i)
+    × PutsAnswers part i out₀ out
     × (i ≤ n)
     × (length out ≡ length out₀)
 
 abbrev μ-loop : tie.MeasureT-loop
-μ-loop part n out₀ t₀ i₀ out t i =
+μ-loop part n out₀ room t₀ i₀ out t i =
     n - i
 
 loop-holds : tie.Need-loop-holds Inv-loop2 μ-loop2 Inv-loop3 μ-loop3 Inv-loop μ-loop
-unfolding printedUpTo answeredUpTo
-loop-holds c = (c .start .ensures, put-none _ 0, search needs, refl)
+unfolding printedUpTo
+loop-holds c = (c .start .ensures, answered-none _ _, search needs, refl)
 
 loop2-holds : tie.Need-loop2-holds Inv-loop2 μ-loop2 Inv-loop3 μ-loop3 Inv-loop μ-loop
 unfolding firstUpTo someUpTo
@@ -213,14 +213,15 @@ loop3-again c =
 
 loop-again : tie.Need-loop-again Inv-loop2 μ-loop2 Inv-loop3 μ-loop3 Inv-loop μ-loop
 loop-again c =
-    let put = c .before .before .put-answer in
-    let turned = c .before .before .before .before .before in
+    let turned = c .before .before in
     let read = turned .before .before .before .before .before .before .before in
     let found = read .before in
     let opened = found .before .before in
+    let start = opened .before .before .before .before in
     let work = turned .loop3 in
     let loop = opened .loop in
-    let part = opened .before .before .before .before .args .part .now in
+    let part = start .args .part .now in
+    let out = start .args .out .now in
     let j =
     outcome-next part (loop .i) (loop .t) (found .record-at .result) (read .read-record .result)
     (record { answer = work .answer; tables = work .t })
@@ -228,12 +229,26 @@ loop-again c =
     (found .record-at .ensures)
     (read .read-record .ensures .0)
     (working-done (loop .t) (read .read-record .result) (work .t) (work .answer) (work .turn) (work .last) (work .inv) (omega arith)) in
-    (j .0, answered-next part _ (loop .out) _ (loop .i) (work .answer) (loop .inv .1) (put .ensures) (j .1), omega arith, put .kept .0 ∙ loop .inv .3)
+    let put : PutsAnswers part (loop .i + 1) out (c .if3 .out) × (length (c .if3 .out) ≡ length out) =
+    ⊎-elim
+    (λ w.
+    rw (w .5) (
+      answered-next part out (loop .out) _ (loop .i) (work .answer) (w .0 .taken) (loop .inv .1) (w .2 .ensures) (j .1),
+      w .2 .kept .0 ∙ loop .inv .3,
+    ))
+    (λ w. rw (w .1) (answered-full part out (loop .out) (loop .i) (w .0 .left) (loop .inv .1), loop .inv .3))
+    (c .if3 .came) in
+    (j .0, put .0, omega arith, put .1)
 
 returns : tie.Need-returns Inv-loop2 μ-loop2 Inv-loop3 μ-loop3 Inv-loop μ-loop
 returns c =
-    let e : c .before .loop .i ≡ c .before .before .before .before .before .args .n = omega arith in
-    rw e at (c .before .loop .inv .1)
+    let loop = c .before .loop in
+    let start = c .before .before .before .before .before in
+    let e : loop .i ≡ start .args .n = omega arith in
+    record {
+      tables = rw e at (loop .inv .0 ∙ printed-is-run (start .args .part .now) (loop .i));
+      answers = rw e at (loop .inv .1);
+    }
 
 pub run-spec : {M : Type 1} → statement M
 run-spec =

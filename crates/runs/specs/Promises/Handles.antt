@@ -18,7 +18,7 @@ use Rattle.rules.specs.Checks.{badSite, badTimes}
 use Rattle.rules.specs.Stations.{isSwept, sweptSlot, losesHome, crashedSlot}
 use Rattle.rules.specs.Passages.{beginOf, retireOf}
 use Rattle.rules.specs.Machine.{lookOf, placesOf, seenOf, decideOf, stored, headOf, turnOf, turnsUpTo, stepOf, tripPlaces, turnSeen, foundOf}
-use Rattle.rules.specs.StoredLaws.{Sized, Placed, passage-after-stored, passage-after-stored-other, turn-stored}
+use Rattle.rules.specs.StoredLaws.{Sized, Storable, Placed, passage-after-stored, passage-after-stored-other, turn-stored}
 use Rattle.rules.specs.RangesLaws.{placed-places, placed-trip}
 use Rattle.rules.specs.RefusedLaws.{refused-leaves}
 use Rattle.rules.specs.Record.{rowOf, isNamed, flatOf}
@@ -174,6 +174,11 @@ generation-start-below = repeat-has (λ (x : Passage). x .generation < 256) 16 (
 -- in every run a generation is one byte
 pub generation-below : {t₀ : Tables} → Started t₀ → (ss : List Step) (p : ℕ) → generationAt (runOf t₀ ss) p < 256
 generation-below {t₀} fresh ss p = generation-from t₀ ss p (sound-started fresh) (rw (fresh .empty) (generation-start-below p)) .0
+
+-- so what holds of tables that a program can hold holds of those of every run
+pub storable-run : {t₀ : Tables} → Started t₀ → (ss : List Step) → Storable (runOf t₀ ss)
+storable-run fresh ss =
+    record { sized = sound-run fresh ss .sized; generations = λ p. let g : generationAt (runOf _ ss) p < 256 = generation-below fresh ss p in omega arith }
 
 -- the generation counts the accepted retires: what a run adds is their number, and 255 is followed by 0
 pub generation-counts-retires :

@@ -12,24 +12,11 @@ use Rattle.rules.specs.Record.{stepRecordOf}
 use Rattle.rules.specs.Runs.{start-started, runRecordsOf, recordAnswersOf}
 use Rattle.rules.specs.Sheet.{sheetAnswer, sheetRecords, recordAt, recordsUpTo}
 use Rattle.rules.specs.Listing.{lineOf, printedUpTo, listingOf}
+use Rattle.rules.specs.ListingLaws.{printed-is-run}
 use Rattle.runs.specs.Types.{Tables, Answer}
 use Rattle.runs.specs.Times.TimeRule.{TimeRule, time-rule-records}
 
--- one more record at the end of a run
-run-one-more :
-    (t : Tables) (rs : List (List ℕ)) (r : List ℕ) → runRecordsOf t (rs ++ (r ∷ [])) ≡ stepRecordOf (runRecordsOf t rs) r .tables
-unfolding runRecordsOf
-run-one-more t [] r = refl
-run-one-more t (x ∷ rs) r = run-one-more (stepRecordOf t x .tables) rs r
-
-pub printed-is-run : (part : List ℕ) (n : ℕ) → printedUpTo part n .tables ≡ runRecordsOf start (recordsUpTo part n)
-unfolding printedUpTo recordsUpTo runRecordsOf
-printed-is-run part zero = refl
-printed-is-run part (suc n) =
-    ap (λ (t : Tables). stepRecordOf t (recordAt part n) .tables) (printed-is-run part n)
-    ∙ sym (run-one-more start (recordsUpTo part n) (recordAt part n))
-
--- so the time rule holds at every line of every listing
+-- the tables behind a listing are those of a run (`printed-is-run`), so the time rule holds at every line of it
 pub time-rule-listing : (part : List ℕ) (n : ℕ) → TimeRule (printedUpTo part n .tables)
 time-rule-listing part n = rw (printed-is-run part n) (time-rule-records start-started (recordsUpTo part n))
 

@@ -2,17 +2,18 @@
 use Prim.Native.Nat.{ℕ, _%_}
 use mathlib.Core.Path.{_≡_}
 use mathlib.Core.Logic.{_⊎_}
-use mathlib.Core.Bool.{true, false}
+use mathlib.Core.Bool.{Bool, true, false, _&&_, _||_}
 use mathlib.Core.List.{List, [], _∷_, _++_}
 use Rattle.rules.specs.Tables.{objectAt, passageAt, messageAt, objectSite, slotOf}
 use Rattle.rules.specs.Machine.{stepOf}
 use Rattle.rules.specs.Record.{flatOf}
-use Rattle.rules.specs.Runs.{runOf}
+use Rattle.rules.specs.Runs.{runOf, historyOf}
 use Rattle.rules.specs.Events.{isHolding}
-use Rattle.runs.specs.Types.{Status, Call, Body, Tables, Step}
+use Rattle.runs.specs.Types.{Status, Call, Body, Tables, Step, Answer}
+use Rattle.runs.specs.Orphans.Orphans.{isRetired}
 use Rattle.runs.specs.Orphans.Widths.{restOf}
 use Rattle.runs.specs.Promises.Definitions.{Promised}
-use Rattle.runs.specs.Operations.Definitions.{InvokedInto, DoneAsSaid}
+use Rattle.runs.specs.Operations.Definitions.{mailNamed, operates, isWrite, InvokedInto, DoneAsSaid}
 
 -- ---- what a commit rests on, and what it lets stand
 
@@ -75,3 +76,32 @@ pub record WasInvoked (t₀ : Tables) (ss : List Step) (p k : ℕ) (s : Step) : 
   pub slot : slotOf (sent .invoked .handle) ≡ p
   pub object : sent .invoked .object ≡ k
   pub done : DoneAsSaid (runOf t₀ ss) (sent .invoked .handle) (sent .invoked .operation) (sent .invoked .object) (sent .invoked .value) s
+
+-- ---- what was read
+
+-- slot p holds object k, and this is its value
+pub record HeldWith (t : Tables) (p k v : ℕ) : Type 0 where
+  pub holds : isHolding t p k ≡ true
+  pub value : objectAt t k .value ≡ v
+
+-- is the step an accepted delivery of a write of slot p to object k?
+abbrev pub writes : Tables → ℕ → ℕ → Step → Bool
+writes t p k s = operates t p k s && isWrite (mailNamed t s .body)
+
+-- whether one of the steps is
+unfoldable pub writtenIn : Tables → ℕ → ℕ → List Step → Bool
+writtenIn t p k [] = false
+writtenIn t p k (s ∷ ss) = writes t p k s || writtenIn (stepOf t s .tables) p k ss
+
+-- among these steps from t₀ slot p read object k, by an accepted delivery that answered v; since then it has not written k, and its slot is not retired.
+-- (What it did to k before that read does not matter: the read answered what it had left there.)
+pub record HasRead (t₀ : Tables) (steps : List Step) (p k v : ℕ) : Type 0 where
+  pub before : List Step
+  pub read : Step
+  pub since : List Step
+  pub all : steps ≡ before ++ read ∷ since
+  pub operated : operates (runOf t₀ before) p k read ≡ true
+  pub reads : isWrite (mailNamed (runOf t₀ before) read .body) ≡ false
+  pub answered : stepOf (runOf t₀ before) read .answer ≡ Answer.Accepted v
+  pub unwritten : writtenIn (stepOf (runOf t₀ before) read .tables) p k since ≡ false
+  pub same-use : isRetired p (historyOf (runOf t₀ before) (read ∷ since)) ≡ false

@@ -17,17 +17,12 @@ returns c =
     let q : refusedSheet (c .before .before .before .sheet-answer .result) ≡ sheetTold (c .before .before .before .before .before .args .sheet .now) = told-refused (c .before .before .before .before .before .args .sheet .now) (c .before .before .before .sheet-answer .result) (c .before .before .before .sheet-answer .ensures) (c .before .before .match .keys2) in
     (rw q at (c .put-refused-sheet .ensures .0), omega (arith, c .put-refused-sheet .ensures .1, c .put-refused-sheet .kept .0))
 
-run-requires : tie.Need-run-requires
-run-requires c κs = let few : length (sheetRecords (c .before .before .before .before .before .before .args .sheet .now)) / 16 ≤ 4095 = taken-few (c .before .before .before .before .before .before .args .sheet .now) (sym (c .before .before .before .before .sheet-answer .ensures) ∙ c .before .before .enum-told .given .1) in
-    let n : length (c .before .sheet-records .result .now) / 16 ≤ 4095 = rw (c .before .sheet-records .ensures) few in
-    (omega arith, omega (arith, n))
-
 put-told-requires : tie.Need-put-told-requires
 put-told-requires c κs =
     let l : length (c .before .before .before .before .before .before .before .before .before .before .args .out .now) ≡ 524288 = search needs in
     let few : length (sheetRecords (c .before .before .before .before .before .before .before .before .before .before .args .sheet .now)) / 16 ≤ 4095 = taken-few (c .before .before .before .before .before .before .before .before .before .before .args .sheet .now) (sym (c .before .before .before .before .before .before .before .before .sheet-answer .ensures) ∙ c .before .before .before .before .before .before .enum-told .given .1) in
     let n : length (c .before .before .before .before .before .sheet-records .result .now) / 16 ≤ 4095 = rw (c .before .before .before .before .before .sheet-records .ensures) few in
-    (omega arith, omega (arith, n, c .before .before .before .run .kept .1 .1 .0), omega (arith, n), n, answers-held (c .before .before .before .before .before .sheet-records .result .now) (length (c .before .before .before .before .before .sheet-records .result .now) / 16) _ _ (c .before .before .before .run .ensures))
+    (omega arith, omega (arith, n, c .before .before .before .run .kept .1 .1 .0), omega (arith, n), n, answers-held (c .before .before .before .before .before .sheet-records .result .now) (length (c .before .before .before .before .before .sheet-records .result .now) / 16) _ _ (omega (arith, n)) (c .before .before .before .run .ensures))
 
 returns-2 : tie.Need-returns-2
 returns-2 c =
@@ -45,7 +40,6 @@ tell-spec =
     (λ c κs. search needs) (λ c. search needs) (λ c κs. search needs)
     returns
     (λ c κs. search needs) (λ c. search needs)
-    run-requires
-    (λ c. search needs)
+    (λ c κs. search needs) (λ c. search needs)
     put-told-requires
     returns-2)

@@ -1,0 +1,3 @@
+-- Laws that the proofs of names cite. Assumes nothing.
+mod Lines
+mod Digits

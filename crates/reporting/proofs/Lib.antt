@@ -1,0 +1,2 @@
+-- Laws that the proofs of reporting cite. Assumes nothing.
+pub mod Said
