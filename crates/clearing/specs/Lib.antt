@@ -7,3 +7,4 @@ pub mod Asks
 pub mod Begun
 pub mod Ends
 pub mod HeldTogether
+pub mod Said
