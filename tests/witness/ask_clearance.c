@@ -119,7 +119,15 @@ static uint32_t any_width(void)
 /* How far a crew goes. */
 enum stage { CALLED, WRITTEN, LEFT_ABORTED, PREPARED, ASKED, CLOSED, TOLD, RETIRED };
 
-/* A crew begins a passage, calls some objects and goes on to the stage. A read holds its object like a write. */
+/* Takes the reply out of a message slot: mostly it is delivered, now and then dropped. */
+static void collect(uint32_t m)
+{
+    if (percent(10) || !done(make(DELIVER, 0, 0, (int)m, 0, 0, 0)))
+        put(make(DROP, 0, 0, (int)m, 0, 0, 0));
+}
+
+/* A crew begins a passage, calls some objects and goes on to the stage. A read holds its object like a write.
+ * It collects its replies; one that will not be retired leaves some. */
 static void crew(int home, int slot, int calls, enum stage stage)
 {
     uint32_t q = latest_clock() + between(120, 900), m;
@@ -138,6 +146,8 @@ static void crew(int home, int slot, int calls, enum stage stage)
             continue;
         if (!done(make(DELIVER, 0, 0, (int)called.value, 0, 0, 0)))
             put(make(DROP, 0, 0, (int)called.value, 0, 0, 0));
+        else if (stage == RETIRED || percent(80))
+            collect(called.value);
     }
     if (stage == LEFT_ABORTED)
         put(make(ABORT, 0, 0, 0, h, 0, 0));
@@ -188,6 +198,7 @@ static void crew_of_all(void)
     for (int k = 0; k < OBJECTS; k++) {
         m = put(make(INVOKE, home, 1, k, begun.value, any_width(), 0)).value;
         put(make(DELIVER, 0, 0, (int)m, 0, 0, 0));
+        collect(m);
     }
     put(make(PREPARE, 0, 0, 0, begun.value, 0, 0));
     for (int turn = 0; turn < 2; turn++) {
@@ -222,7 +233,7 @@ static void use_again(int slot, int times)
     }
 }
 
-/* Calls of one passage stay on their way until so many messages are in flight. */
+/* Calls of one passage stay on their way until so many messages are in flight; or they come in, and their replies stay. */
 static void fill(int messages)
 {
     int home = site_that(false), slot = slot_that(true);
@@ -232,10 +243,13 @@ static void fill(int messages)
     struct answer begun = put(make(BEGIN, home, slot, 0, 0, q, q + 10));
     if (begun.number != 0)
         return;
+    uint32_t replies = percent(50) ? 0 : percent(50) ? 40 : 100;
     while (lowest_empty_message(&t) < messages) {
-        struct record r = make(INVOKE, home, 0, (int)chance(OBJECTS), begun.value, 0, 0);
-        if (!done(r))
+        struct answer called = put(make(INVOKE, home, 0, (int)chance(OBJECTS), begun.value, 0, 0));
+        if (called.number != 0)
             return;
+        if (percent(replies))
+            put(make(DELIVER, 0, 0, (int)called.value, 0, 0, 0));
     }
 }
 
@@ -771,26 +785,44 @@ static bool is_met(struct aim aim)
     }
 }
 
-/* The smallest width that the plan reads; false if it reads none. */
-static bool smallest_width(struct plan plan, uint32_t *width)
+/* What a check of the plan's first objects finds; false if it does not commit. */
+static bool try_plan(const struct plan *plan, int objects, struct cleared *found)
 {
     static struct tables copy;
     struct question q;
     memset(&q, 0, sizeof q);
     q.beam = 1;
-    q.home = counted(plan.home);
-    q.slot = counted(plan.slot);
-    q.quiesce = plan.quiesce;
-    q.release = plan.release;
-    q.objects = plan.objects;
-    for (int i = 0; i < plan.objects; i++)
-        q.object[i] = counted(plan.object[i]);
+    q.home = counted(plan->home);
+    q.slot = counted(plan->slot);
+    q.quiesce = plan->quiesce;
+    q.release = plan->release;
+    q.objects = objects;
+    for (int i = 0; i < objects; i++)
+        q.object[i] = counted(plan->object[i]);
     copy = t;
-    struct cleared found = clear(&copy, &q);
+    *found = clear(&copy, &q);
+    return found->verdict == FITS || found->verdict == NARROW;
+}
+
+/* The smallest width that the plan reads; false if it reads none. */
+static bool smallest_width(const struct plan *plan, uint32_t *width)
+{
+    struct cleared found;
+    bool committed = try_plan(plan, plan->objects, &found);
     *width = VALUE_MAX;
     for (int i = 0; i < found.count; i++)
         *width = min_of(*width, found.width[i]);
-    return found.verdict == FITS || found.verdict == NARROW;
+    return committed;
+}
+
+/* Sets Q so that the check comes through the first objects of the list and has no moment to spare, or one. The reply to the last of them comes at Q then, or just before it. */
+static void tighten(struct plan *plan, int objects, uint32_t spare)
+{
+    struct cleared found;
+    if (!try_plan(plan, objects, &found) || found.read_at + 1 + spare > TIME_MAX)
+        return;
+    plan->quiesce = found.read_at + 1 + spare;
+    plan->release = min_of(plan->quiesce + chance(50), TIME_MAX);
 }
 
 /* Sets beam and margin so that their sum is as given, where that can be. */
@@ -806,8 +838,10 @@ static void set_sum(struct plan *plan, uint32_t sum)
 static void aim_width(struct plan *plan, struct aim aim)
 {
     uint32_t width;
-    if (!smallest_width(*plan, &width))
+    if (!smallest_width(plan, &width))
         return;
+    if (percent(20))
+        tighten(plan, plan->objects, chance(2));
     if (aim.kind == AIM_FITS)
         set_sum(plan, percent(50) ? width : width - chance(width / 2 + 1));
     else
@@ -920,6 +954,10 @@ static void aim_step(struct plan *plan, struct aim aim)
         plan->release = max_of(plan->quiesce, plan->release);
         break;
     case 100 * INVOKE + 8:
+        if (plan->objects > 1 && percent(50)) {
+            tighten(plan, (int)between(1, (uint32_t)plan->objects - 1), 0);
+            break;
+        }
         plan->quiesce = t.site[home].clock + 2 + (percent(40) ? 0 : chance((uint32_t)plan->objects * 2));
         plan->release = max_of(plan->quiesce, plan->release);
         break;

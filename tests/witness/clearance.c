@@ -1,4 +1,4 @@
-/* clearance: a second writing of the clearance checker, request b of document 02, in plain C.
+/* clearance: a second writing of the clearance checker, request b of document 02, in plain C, with the replies of request c.
  *
  *   clearance STATION COMPANY REQUEST SHEET             prints the text of ./clearance, and ends with its status
  *   clearance --counts STATION COMPANY REQUEST SHEET    the same, and on standard error a line for each thing that was met
@@ -10,13 +10,14 @@
  *
  * It was written from request b and from the issue "Request b: the clearance checker", over the machine of witness.c.
  * Comments in "double quotes" are sentences of that issue; those of document 02 say so.
+ * What request c changes is from the issue "Request c: replies must come home", and its sentences stand after that name.
  *
  * Where the issue is silent:
  * - A number is one digit or more, and leading zeros change nothing, however many.
  * - The words are read as one text. A word that holds a space is two words, and an empty word is two spaces in a row.
  * - Each word behind `objects` is a number, those behind the ninth too.
  * - A home, a slot or an object above 255 is told as 255, in the words of a refused begin too.
- * - "for a read" is both steps of a read, the invoke and its deliver.
+ * - "for a read" is all three steps of a read: the invoke, the deliver of its call and the deliver of its reply.
  * - A line without a digit at its start matches nothing, object 0 neither.
  * - A line of digits and byte 32 alone matches, and is handed back with that byte.
  * - The bytes of a line go out as they stand, a carriage return and byte 0 among them.
@@ -38,6 +39,9 @@
 
 /* "of more than nine the first nine are handed on" */
 enum { LIST_MAX = 8, HANDED_MAX = 9, NAMES_MAX = 16384, NOT_A_READ = -1 };
+
+/* Request c: "its loop is then at most 62 turns". They are begin, three for each of eight objects, prepare, three for each of seven stations, close, and two for each of those again. */
+enum { TURNS_MAX = 1 + 3 * LIST_MAX + 1 + 3 * (SITES - 1) + 1 + 2 * (SITES - 1) };
 
 /* Bytes that are lent. */
 struct bytes {
@@ -92,7 +96,10 @@ struct cleared {
     /* "`handle` is begin's value and means something only where `begun`" */
     bool begun;
     uint16_t handle;
-    uint32_t message; /* the slot of the last message, for the counts alone */
+    /* for the counts alone: the slot of the last message, the steps up to the last tell, the clocks of the last call that was delivered and of the last reply */
+    uint32_t message;
+    int turns;
+    uint32_t read_at, replied_at;
     const char *strange; /* what must not be, or NULL */
 };
 
@@ -121,6 +128,7 @@ static bool taken(struct tables *t, struct record r, struct cleared *done, uint3
     enum met met = what_is_met(t, &r);
     struct answer answer = run_record(t, &r);
     *value = answer.value;
+    done->turns++;
     if (answer.number == 0)
         return true;
     done->step = r;
@@ -149,6 +157,15 @@ static bool held_together(const struct tables *t, const struct question *q, cons
     return true;
 }
 
+/* Whether the message slot has the reply to a read of the object: on its way home, with the value that the object has and is held with. */
+static bool is_reply_for(const struct tables *t, const struct question *q, uint32_t m, int object)
+{
+    const struct message *message = &t->message[m];
+    return message->kind == REPLY && message->destination == q->home && message->source == site_of_object(object)
+        && slot_of(message->handle) == q->slot && message->found == t->object[object].value
+        && t->object[object].holder == q->slot;
+}
+
 /* "Steps, each answered before the next": those from 1 to 5, false at the first that is refused. */
 static bool steps_to_close(struct tables *t, const struct question *q, struct cleared *done)
 {
@@ -159,14 +176,21 @@ static bool steps_to_close(struct tables *t, const struct question *q, struct cl
         return false;
     done->begun = true;
     done->handle = (uint16_t)value;
-    /* "Each object, in the list's order: invoke h at home, read; deliver m, m that invoke's value. The deliver's value is the width." */
+    /* "Each object, in the list's order: invoke h at home, read; deliver m, m that invoke's value."
+     * Request c: "delivers m a second time and takes the width from the reply" */
     for (int i = 0; i < q->objects; i++) {
         done->read = i;
         if (!taken(t, make(INVOKE, q->home, 0, q->object[i], done->handle, 0, 0), done, &m))
             return false;
         done->message = m;
+        if (!taken(t, make(DELIVER, 0, 0, (int)m, 0, 0, 0), done, &value))
+            return false;
+        if (value != 0 || !is_reply_for(t, q, m, q->object[i]))
+            done->strange = "a delivered read has not left its reply";
+        done->read_at = t->message[m].stamp;
         if (!taken(t, make(DELIVER, 0, 0, (int)m, 0, 0, 0), done, &done->width[i]))
             return false;
+        done->replied_at = t->site[q->home].clock;
     }
     done->read = NOT_A_READ;
     if (!held_together(t, q, done))
@@ -199,9 +223,11 @@ static void tell_all(struct tables *t, const struct question *q, struct cleared 
             continue;
         struct record r = make(TELL, site, 0, 0, done->handle, 0, 0);
         struct answer told = run_record(t, &r);
+        done->turns++;
         if (told.number == 0) {
             r = make(DELIVER, 0, 0, (int)told.value, 0, 0, 0);
             told = run_record(t, &r);
+            done->turns++;
         }
         if (told.number != 0)
             done->strange = "a tell, or its delivery, is refused";
@@ -256,6 +282,8 @@ static struct cleared clear(struct tables *t, const struct question *q)
     for (int m = 0; m < MESSAGES; m++)
         if (was_empty[m] != (t->message[m].kind == EMPTY))
             done.strange = "a message slot is not as it was";
+    if (done.turns > TURNS_MAX)
+        done.strange = "the check has more than 62 turns";
     return done;
 }
 
@@ -557,7 +585,7 @@ static const char *const step_told[] = {
     [BEGIN] = "begin", [INVOKE] = "invoke", [PREPARE] = "prepare", [ASK] = "ask", [CLOSE] = "close"
 };
 static const char *const met_told[] = {
-    [MET_CALL] = "deliver call", [MET_PREPARE_1] = "deliver prepare-1", [MET_ANSWER] = "deliver answer", [NOT_A_DELIVERY] = "deliver"
+    [MET_CALL] = "deliver call", [MET_REPLY] = "deliver reply", [MET_PREPARE_1] = "deliver prepare-1", [MET_ANSWER] = "deliver answer", [NOT_A_DELIVERY] = "deliver"
 };
 
 /* What stands in one list about an object, beside the line that a look into it hands back. */
@@ -655,6 +683,12 @@ static void count_widths(const struct question *q, const struct cleared *done)
         fprintf(stderr, "edge committed with its messages in another slot than 0\n");
     if (q->quiesce == TIME_MAX)
         fprintf(stderr, "edge committed with Q 1000000000\n");
+    if (done->replied_at + 1 == q->quiesce)
+        fprintf(stderr, "edge committed, its last reply at Q - 1\n");
+    if (done->replied_at == q->quiesce)
+        fprintf(stderr, "edge committed, its last reply at Q\n");
+    if (done->turns == TURNS_MAX)
+        fprintf(stderr, "edge 62 turns\n");
 }
 
 static void count_met(struct bytes station, struct bytes company, const struct said *said)
@@ -684,6 +718,8 @@ static void count_met(struct bytes station, struct bytes company, const struct s
             count_look(station, company, q->object[done->read]);
         if (done->read > 0)
             fprintf(stderr, "edge no reading after a width was read\n");
+        if (done->read > 0 && done->step.code == INVOKE && done->replied_at == q->quiesce)
+            fprintf(stderr, "edge call refused by 8 after a reply at Q\n");
         if (done->step.code == DELIVER && done->step.c > 0)
             fprintf(stderr, "edge no reading with a message in another slot than 0\n");
         return;

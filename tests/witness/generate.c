@@ -347,14 +347,15 @@ static bool move_on_message(struct record *r, int code)
     return true;
 }
 
-/* Drops a message; mostly one that no delivery will take any more. */
+/* Drops a message; mostly one that no delivery will take any more, or a reply. */
 static bool move_drop(struct record *r)
 {
     for (int tries = 0; tries < 4; tries++) {
         if (!move_on_message(r, DELIVER))
             return false;
         int number = foresee(*r).number;
-        if (number == 6 || number == 8 || number == 9 || number == 13 || tries == 3)
+        bool reply = t.message[r->c].kind == REPLY && percent(30);
+        if (reply || number == 6 || number == 8 || number == 9 || number == 13 || tries == 3)
             break;
     }
     r->code = DROP;
@@ -680,9 +681,9 @@ static void put_edge(void)
         put(make(SWEEP, site, 0, 0, 0, 0, 0));
         break;
     default: {
-        /* a message to the site: delivered just before the Q that counts, or at it */
+        /* a call, just before the Q that counts or at it; or a reply, to which no Q counts */
         int m = any_message();
-        if (m < 0 || t.message[m].kind != CALL)
+        if (m < 0 || (t.message[m].kind != CALL && t.message[m].kind != REPLY))
             return;
         const struct message *message = &t.message[m];
         visit = &t.visit[message->destination][slot_of(message->handle)];
@@ -730,20 +731,47 @@ static int scene_begin(int home, uint32_t q, uint32_t r)
     return -1;
 }
 
+/* A read or a write of the one object at the station that the passage uses. */
 static struct answer scene_call(int slot, int from, int to)
 {
-    return put(make(INVOKE, from, 0, to * OBJECTS_PER_SITE + slot % OBJECTS_PER_SITE, handle_of(&t, slot), 0, 0));
+    bool write = percent(50);
+    uint32_t value = write ? chance(VALUE_MAX + 1) : 0;
+    return put(make(INVOKE, from, write, to * OBJECTS_PER_SITE + slot % OBJECTS_PER_SITE, handle_of(&t, slot), value, 0));
 }
 
 static struct answer scene_deliver(uint32_t m) { return put(make(DELIVER, 0, 0, (int)m, 0, 0, 0)); }
 
 static struct answer on_handle(int code, int slot) { return put(make(code, 0, 0, 0, handle_of(&t, slot), 0, 0)); }
 
-/* Sends a call and delivers it. */
-static bool scene_visit(int slot, int from, int to)
+/* Takes the reply out of the message slot, if there is one: it is delivered, or now and then dropped. */
+static void scene_collect(uint32_t m)
+{
+    if (t.message[m].kind == REPLY && (percent(10) || scene_deliver(m).number != 0))
+        put(make(DROP, 0, 0, (int)m, 0, 0, 0));
+}
+
+/* Sends a call and delivers it; its reply stays on its way. Gives the message slot, or -1. */
+static int scene_leave_reply(int slot, int from, int to)
 {
     struct answer answer = scene_call(slot, from, to);
-    return answer.number == 0 && scene_deliver(answer.value).number == 0;
+    return answer.number == 0 && scene_deliver(answer.value).number == 0 ? (int)answer.value : -1;
+}
+
+/* Sends a call, delivers it and collects the reply. */
+static bool scene_visit(int slot, int from, int to)
+{
+    int m = scene_leave_reply(slot, from, to);
+    if (m >= 0)
+        scene_collect((uint32_t)m);
+    return m >= 0;
+}
+
+/* Brings a message in, and its reply too if it has one; now and then that one is left. */
+static void scene_bring_in(uint32_t m)
+{
+    scene_deliver(m);
+    if (percent(90))
+        scene_collect(m);
 }
 
 /* Asks a site, delivers the question and the answer. */
@@ -761,7 +789,8 @@ static void scene_generations(void)
     for (uint32_t i = 0; i < cycles && !sheet_is_full(); i++) {
         uint32_t clock = t.site[site].clock;
         uint32_t old = handle_of(&t, slot);
-        struct answer begun = put(make(BEGIN, site, slot, 0, 0, clock + 3, clock + 3));
+        uint32_t q = clock + 3 + (percent(20) ? 3 : 0);
+        struct answer begun = put(make(BEGIN, site, slot, 0, 0, q, q));
         if (begun.number != 0)
             break;
         if (percent(5))
@@ -774,8 +803,10 @@ static void scene_generations(void)
             put(make(SWEEP, site, 0, 0, 0, 0, 0));
             on_handle(RETIRE, slot);
             if (call.number == 0)
-                put(make(percent(50) ? DROP : DELIVER, 0, 0, (int)call.value, 0, 0, 0));
-            if (call.number == 0)
+                put(make(percent(30) ? DROP : DELIVER, 0, 0, (int)call.value, 0, 0, 0));
+            if (call.number == 0 && t.message[call.value].kind == REPLY)
+                scene_collect(call.value);
+            else if (call.number == 0)
                 put(make(DROP, 0, 0, (int)call.value, 0, 0, 0));
             if (t.visit[other][slot].there)
                 next_step_at(other, t.visit[other][slot].r);
@@ -827,7 +858,7 @@ static void scene_full(void)
         scene_call(three, 2, 3);
         put(make(ASK, 3, 0, 0, handle_of(&t, two), 0, 0));
         put(make(TELL, 3, 0, 0, handle_of(&t, one), 0, 0));
-        uint32_t emptied = between(1, MESSAGES);
+        uint32_t emptied = between(1, 2 * MESSAGES);
         for (uint32_t i = 0; i < emptied; i++) {
             int code = percent(50) ? DROP : DELIVER;
             put(make(code, 0, 0, (int)chance(MESSAGES), 0, 0, 0));
@@ -851,12 +882,16 @@ static uint32_t lowest_call_of(int slot)
     return 0;
 }
 
-/* Delivers some calls of the passage and drops the others. */
+/* Delivers some calls of the passage and drops the others. No reply of it stays. */
 static void scene_empty(int slot)
 {
-    for (int m = 0; m < MESSAGES; m++)
-        if (t.message[m].kind == CALL && slot_of(t.message[m].handle) == slot)
+    for (int m = 0; m < MESSAGES; m++) {
+        if (slot_of(t.message[m].handle) != slot)
+            continue;
+        if (t.message[m].kind == CALL)
             put(make(percent(50) ? DELIVER : DROP, 0, 0, m, 0, 0, 0));
+        scene_collect((uint32_t)m);
+    }
 }
 
 /* A refresh round over all visits of the passage, with a try to close it before and after. */
@@ -901,14 +936,19 @@ static void scene_calls(void)
         if (call.number != 0)
             break;
         put(make(there->received < received ? DELIVER : DROP, 0, 0, (int)call.value, 0, 0, 0));
+        scene_collect(call.value);
     }
     /* call 1,000 and 1,001, each as message 33 and as message 32 */
     scene_fill(other, from, to);
     scene_call(slot, from, to);
-    scene_deliver(lowest_call_of(other));
+    uint32_t lowest = lowest_call_of(other);
+    scene_deliver(lowest);
+    scene_call(slot, from, to);
+    scene_collect(lowest);
     struct answer last = scene_call(slot, from, to);
     scene_call(slot, from, to);
     put(make(there->received < received ? DELIVER : DROP, 0, 0, (int)last.value, 0, 0, 0));
+    scene_collect(last.value);
     scene_call(slot, from, to);
     scene_visit(slot, from, elsewhere);
     scene_empty(other);
@@ -920,7 +960,11 @@ static void scene_calls(void)
     for (int i = 0; i < 5; i++) {
         scene_deliver(held.value);
         struct answer call = scene_call(slot, more, to);
-        if (call.number == 0 && scene_deliver(call.value).number != 0 && percent(80))
+        if (call.number != 0)
+            continue;
+        if (scene_deliver(call.value).number == 0)
+            scene_collect(call.value);
+        else if (percent(80))
             put(make(DROP, 0, 0, (int)call.value, 0, 0, 0));
     }
     /* a call to an object that nobody holds, which comes in as call 1,001 */
@@ -944,6 +988,7 @@ static void scene_calls(void)
     /* the object was not taken: the other passage gets it */
     struct answer taken = put(make(INVOKE, from, 0, unheld, handle_of(&t, other), 0, 0));
     scene_deliver(taken.value);
+    scene_collect(taken.value);
     scene_count(slot, TIME_MAX);
     /* both counts where the station is down */
     at_both(CRASH, from, to, 0);
@@ -1077,7 +1122,7 @@ static void spend_last_moment(int site)
     put(best);
 }
 
-/* Takes a passage to one of twelve states, most of them with a message on its way. */
+/* Takes a passage to one of thirteen states, most of them with a message on its way. */
 static void scene_state(uint32_t state)
 {
     int home = (int)chance(SITES), x = (home + 1 + (int)chance(SITES - 1)) % SITES;
@@ -1090,6 +1135,9 @@ static void scene_state(uint32_t state)
     if (state == 0 || call.number != 0) /* a call on its way */
         return;
     scene_deliver(call.value);
+    if (state == 12) /* a reply on its way */
+        return;
+    scene_collect(call.value);
     if (state == 1) /* active */
         return;
     if (state == 2) { /* aborted */
@@ -1126,10 +1174,13 @@ static void scene_late(void)
     int late = (int)chance(SITES);
     int slot = scene_begin(late, TIME_MAX, TIME_MAX);
     for (int site = 0; site < SITES; site++)
-        if (site != late && percent(90))
-            scene_visit(slot, late, site);
+        if (site != late && percent(90)) {
+            int m = scene_leave_reply(slot, late, site);
+            if (m >= 0 && percent(60))
+                scene_collect((uint32_t)m);
+        }
     for (int i = 0; i < SLOTS - 2; i++)
-        scene_state(state++ % 12);
+        scene_state(state++ % 13);
     while (t.site[late].clock < CLOCK_MAX - 200 && !sheet_is_full())
         if (!done(make(TICK, late, 0, 0, 0, at_most(CLOCK_MAX - 200 - t.site[late].clock, TICK_MAX), 0)))
             break;
@@ -1189,13 +1240,13 @@ static void scene_round_trip(void)
         on_handle(kind == KIND_TERMINATE ? TERMINATE : PREPARE, slot);
     scene_ask(slot, x);
     if (percent(50) && late.number == 0)
-        scene_deliver(late.value);
+        scene_bring_in(late.value);
     scene_ask(slot, y);
     on_handle(CLOSE, slot);
     if (more.number == 0)
-        scene_deliver(more.value);
+        scene_bring_in(more.value);
     if (late.number == 0)
-        scene_deliver(late.value);
+        scene_bring_in(late.value);
     /* a second round counts again */
     if (kind == KIND_REFRESH)
         put(make(REFRESH, 0, 0, 0, handle_of(&t, slot), next, next + chance(50)));
@@ -1210,7 +1261,7 @@ static void scene_round_trip(void)
     }
     for (int m = 0; m < MESSAGES; m++)
         if (t.message[m].kind != EMPTY && percent(70))
-            scene_deliver((uint32_t)m);
+            scene_bring_in((uint32_t)m);
 }
 
 /* Opens a round of the kind. */
@@ -1295,13 +1346,13 @@ static void scene_tour(void)
             object += (int)chance(OBJECTS_PER_SITE);
             struct answer call = put(make(INVOKE, from, 1, object, handle_of(&t, slot), chance(VALUE_MAX + 1), 0));
             if (call.number == 0 && !percent(faults))
-                scene_deliver(call.value);
+                scene_bring_in(call.value);
             if (percent(faults))
                 walk(records + between(1, 6));
         }
         for (int m = 0; m < MESSAGES && percent(80); m++)
             if (t.message[m].kind == CALL && slot_of(t.message[m].handle) == slot)
-                scene_deliver((uint32_t)m);
+                scene_bring_in((uint32_t)m);
         int kind = round > 1 && t.passage[slot].status == ACTIVE ? KIND_REFRESH
             : percent(60) && t.passage[slot].status != ABORTED ? KIND_PREPARE : KIND_TERMINATE;
         if (scene_open(slot, kind).number != 0)
@@ -1328,6 +1379,149 @@ static void scene_tour(void)
             put(make(SWEEP, site, 0, 0, 0, 0, 0));
         }
     on_handle(RETIRE, slot);
+    scene_empty(slot);
+    on_handle(RETIRE, slot);
+}
+
+/* Replies that come late: after Q, an abort, a commit, a crash of the caller or of the station that replied, a sweep, or a change of the object. */
+static void scene_late_replies(void)
+{
+    static const int path[][2] = { { 0, 1 }, { 0, 0 }, { 1, 2 }, { 1, 1 }, { 1, 0 }, { 0, 2 } };
+    enum { REPLIES = sizeof path / sizeof path[0] };
+    static uint32_t turn;
+    int home = (int)chance(SITES), x = (home + 1 + (int)chance(3)) % SITES, y = (home + 4 + (int)chance(4)) % SITES;
+    int station[] = { home, x, y }, reply[REPLIES];
+    uint32_t clock = max_of(t.site[home].clock, max_of(t.site[x].clock, t.site[y].clock));
+    uint32_t q = clock + 40 + chance(40), event = turn++ % 7;
+    int slot = scene_begin(home, q, q + between(1, 20));
+    if (slot < 0 || !scene_visit(slot, home, x))
+        return;
+    for (int i = 0; i < REPLIES; i++)
+        reply[i] = scene_leave_reply(slot, station[path[i][0]], station[path[i][1]]);
+    for (int i = 0; i < REPLIES; i++)
+        if (reply[i] < 0)
+            return;
+    switch (event) {
+    case 0: /* at Q - 1, at Q and past it, at home and away */
+        for (int i = 0; i < 2; i++) {
+            next_step_at(station[i], q - 1);
+            scene_deliver((uint32_t)reply[3 * i]);
+            scene_deliver((uint32_t)reply[3 * i + 1]);
+        }
+        break;
+    case 1: /* while it commits, and when it has committed */
+        scene_open(slot, KIND_PREPARE);
+        scene_deliver((uint32_t)reply[0]);
+        scene_ask(slot, x);
+        scene_ask(slot, y);
+        scene_deliver((uint32_t)reply[2]);
+        on_handle(CLOSE, slot);
+        scene_deliver((uint32_t)reply[1]);
+        for (int i = 1; i < 3; i++) {
+            struct answer told = put(make(TELL, station[i], 0, 0, handle_of(&t, slot), 0, 0));
+            scene_deliver(told.value);
+        }
+        break;
+    case 2: /* the caller, home or not, is down and comes up again */
+    case 3: {
+        int from = station[event - 2];
+        put(make(CRASH, from, 0, 0, 0, 0, 0));
+        for (int i = 0; i < REPLIES; i++)
+            scene_deliver((uint32_t)reply[i]);
+        put(make(DROP, 0, 0, reply[event == 2 ? 5 : 4], 0, 0, 0));
+        put(make(RECOVER, from, 0, 0, 0, 0, 0));
+        break;
+    }
+    case 4: /* the station that replied is down */
+        put(make(CRASH, x, 0, 0, 0, 0, 0));
+        scene_deliver((uint32_t)reply[0]);
+        put(make(CRASH, y, 0, 0, 0, 0, 0));
+        put(make(RECOVER, x, 0, 0, 0, 0, 0));
+        scene_deliver((uint32_t)reply[2]);
+        put(make(RECOVER, y, 0, 0, 0, 0, 0));
+        break;
+    default: /* aborted and swept; then another passage writes over what was read */
+        on_handle(ABORT, slot);
+        scene_deliver((uint32_t)reply[0]);
+        for (int i = 0; i < 3; i++) {
+            next_step_at(station[i], t.visit[station[i]][slot].r);
+            put(make(SWEEP, station[i], 0, 0, 0, 0, 0));
+        }
+        if (event == 6) {
+            int object = y * OBJECTS_PER_SITE + slot % OBJECTS_PER_SITE;
+            int other = scene_begin(y, t.site[y].clock + 20, t.site[y].clock + 30);
+            struct answer call = put(make(INVOKE, y, 1, object, handle_of(&t, other < 0 ? 0 : other), between(1, VALUE_MAX), 0));
+            if (call.number == 0)
+                scene_bring_in(call.value);
+        }
+    }
+    /* the rest of them, one after the other, and each time a retire */
+    for (int i = 0; i < REPLIES; i++) {
+        on_handle(RETIRE, slot);
+        scene_collect((uint32_t)reply[i]);
+    }
+    on_handle(RETIRE, slot);
+}
+
+/* 32 replies that nobody collects: no call, question or word goes out until one of them is taken away. */
+static void scene_uncollected(void)
+{
+    int home = (int)chance(SITES), x = (home + 1) % SITES, y = (home + 2) % SITES;
+    uint32_t q = between(5000, 60000), r = q + chance(5000);
+    int one = scene_begin(home, q, r), two = scene_begin(x, q, r), three = scene_begin(y, q, r);
+    if (one < 0 || two < 0 || three < 0)
+        return;
+    scene_visit(one, home, x);
+    put(make(REFRESH, 0, 0, 0, handle_of(&t, one), q, r));
+    scene_ask(one, x);
+    on_handle(CLOSE, one);
+    on_handle(PREPARE, two);
+    while (lowest_empty_message(&t) < MESSAGES - 1 && scene_leave_reply(three, y, (y + (int)chance(4)) % SITES) >= 0)
+        continue;
+    for (int turn = 0; turn < 3; turn++) {
+        /* with 31 of them each goes out, and the call makes 32 */
+        struct answer asked = put(make(ASK, home, 0, 0, handle_of(&t, two), 0, 0));
+        put(make(DROP, 0, 0, (int)asked.value, 0, 0, 0));
+        struct answer told = put(make(TELL, x, 0, 0, handle_of(&t, one), 0, 0));
+        put(make(DROP, 0, 0, (int)told.value, 0, 0, 0));
+        scene_leave_reply(three, y, x);
+        scene_call(three, y, x);
+        put(make(ASK, home, 0, 0, handle_of(&t, two), 0, 0));
+        put(make(TELL, x, 0, 0, handle_of(&t, one), 0, 0));
+        int code = percent(70) ? DELIVER : DROP;
+        put(make(code, 0, 0, (int)chance(MESSAGES), 0, 0, 0));
+    }
+    scene_empty(three);
+}
+
+/* A reply with the latest stamp: its call came in at the last clock before the largest Q.
+ * Then the caller's clock goes to its end, where the last moment goes to a reply or to a crash, while others wait. */
+static void scene_latest_stamp(void)
+{
+    static uint32_t turn;
+    int home = (int)chance(SITES), x = (home + 1 + (int)chance(SITES - 1)) % SITES;
+    int slot = scene_begin(home, TIME_MAX, TIME_MAX);
+    if (slot < 0)
+        return;
+    int waits[3];
+    for (int i = 0; i < 3; i++) {
+        waits[i] = scene_leave_reply(slot, home, i == 2 ? home : x);
+        if (waits[i] < 0)
+            return;
+    }
+    struct answer call = scene_call(slot, home, x);
+    next_step_at(x, TIME_MAX - 1);
+    scene_deliver(call.value);
+    scene_deliver(call.value);
+    put(make(TICK, home, 0, 0, 0, 1, 0));
+    next_step_at(home, CLOCK_MAX);
+    if (turn++ % 2 == 0)
+        scene_deliver((uint32_t)waits[0]);
+    else
+        put(make(CRASH, home, 0, 0, 0, 0, 0));
+    for (int i = 0; i < 3; i++)
+        scene_deliver((uint32_t)waits[i]);
+    scene_collect((uint32_t)waits[1]);
 }
 
 /* ------------------------------------------------------------- whole sheets */
@@ -1430,9 +1624,10 @@ static size_t make_sheet(unsigned long place)
     } else if (dice < 40) {
         walk(chance(80));
         for (uint32_t i = between(2, 8); i > 0; i--) {
-            switch (chance(4)) {
+            switch (chance(5)) {
             case 0: scene_round_trip(); break;
             case 1: scene_stale(); break;
+            case 2: scene_late_replies(); break;
             default: scene_tour(); break;
             }
             walk(records + chance(20));
@@ -1442,6 +1637,15 @@ static size_t make_sheet(unsigned long place)
         return damage(finish(chance(40)));
     } else if (dice < 54) {
         walk(RECORDS_MAX);
+    } else if (dice < 56) {
+        scene_uncollected();
+    } else if (dice < 57) {
+        scene_latest_stamp();
+    } else if (dice < 60) {
+        for (uint32_t i = 0; i < 7; i++) {
+            scene_late_replies();
+            walk(records + chance(20));
+        }
     }
     walk(records + between(50, 700));
     return finish(percent(70) ? 0 : chance(100));

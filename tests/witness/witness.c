@@ -3,7 +3,7 @@
  * It reads a sheet from standard input and prints the listing to standard output.
  * It was written from document 01, in place and by ordinary means: a struct of tables, one function per step, a switch over the sixteen codes.
  * docs/WITNESS.md says what it is for, and how it reads the places where document 01 is silent.
- * Comments in "double quotes" are sentences of document 01. Where request a of document 02 changes one, its words stand there too, after its name.
+ * Comments in "double quotes" are sentences of document 01. Where request a or c of document 02 changes one, its words stand there too, after its name.
  *
  *   witness < SHEET            prints the listing
  *   witness --pairs < SHEET    the same, and on standard error how often each pair of step and refusal number occurred
@@ -100,9 +100,10 @@ struct visit {
     uint16_t received;
 };
 
-enum message_kind { EMPTY, CALL, PHASE_1, PHASE_2, ANSWER };
+enum message_kind { EMPTY, CALL, REPLY, PHASE_1, PHASE_2, ANSWER };
 
-/* "32 message slots: kind, source, destination, handle (only its slot is looked at), stamp, fields." */
+/* "32 message slots: kind, source, destination, handle (only its slot is looked at), stamp, fields."
+ * The fields that a kind doesn't have are 0. */
 struct message {
     enum message_kind kind;
     int source;
@@ -115,6 +116,8 @@ struct message {
     uint32_t value;
     uint32_t q;
     uint32_t r;
+    /* a reply: the object's value before the operation */
+    uint32_t found;
     /* a call has the visit's round; "Phase 1 carries number, kind and a refresh's new R; phase 2 number, kind and new Q or M." */
     uint16_t number;
     enum kind round_kind;
@@ -694,10 +697,11 @@ static struct answer abort_passage(struct tables *t, const struct record *r)
 }
 
 /* "Delivered call. With a visit: its own Q, R and round stay. Without: one is made from the message's Q, R and round, no calls sent, no marks. Received grows by 1. The object is taken if unheld, then read or written. Value: the object's value before the operation."
- * Request a: "13 call count at 1,000". A call that is delivered needs no new slot, so 11 is not tried. 13 stands where 11 stood, after 10. */
+ * Request a: "13 call count at 1,000". A call that is delivered needs no new slot, so 11 is not tried. 13 stands where 11 stood, after 10.
+ * Request c: "A delivered call leaves a reply in its slot, addressed to the calling site; delivering that gives the value and moves the clock. The operation delivery's value becomes 0." */
 static struct answer deliver_call(struct tables *t, int m, uint32_t clock)
 {
-    const struct message *message = &t->message[m];
+    struct message *message = &t->message[m];
     int slot = slot_of(message->handle);
     struct visit *visit = &t->visit[message->destination][slot];
     struct object *object = &t->object[message->object];
@@ -722,13 +726,33 @@ static struct answer deliver_call(struct tables *t, int m, uint32_t clock)
         visit->round = message->number;
     }
     visit->received++;
-    uint32_t value = object->value;
+    struct message reply;
+    memset(&reply, 0, sizeof reply);
+    reply.kind = REPLY;
+    reply.source = message->destination;
+    reply.destination = message->source;
+    reply.handle = message->handle;
+    reply.stamp = clock;
+    reply.found = object->value;
     if (object->holder == NOBODY) {
         object->holder = slot;
         object->before = object->value;
     }
     if (message->write)
         object->value = message->value;
+    *message = reply;
+    return accept(0);
+}
+
+/* Request c: "delivering that gives the value and moves the clock". "Refusals: none new; a reply to a down site is 4."
+ * So 3, 4 and 7 are all that it tries, and no visit, object, passage or count is looked at or changed. */
+static struct answer deliver_reply(struct tables *t, int m, uint32_t clock)
+{
+    const struct message *message = &t->message[m];
+    uint32_t value = message->found;
+    if (clock > CLOCK_MAX)
+        return refuse(7, WHY_7);
+    t->site[message->destination].clock = clock;
     empty_message(t, m);
     return accept(value);
 }
@@ -749,16 +773,16 @@ static struct answer deliver_phase_1(struct tables *t, int m, uint32_t clock)
         return refuse(9, "delivered phase 1: number <= the visit's");
     t->site[message->destination].clock = clock;
     phase_1_part(visit, message->round_kind, message->number, message->new_r, clock);
-    struct message reply;
-    memset(&reply, 0, sizeof reply);
-    reply.kind = ANSWER;
-    reply.source = message->destination;
-    reply.destination = t->passage[slot].home;
-    reply.handle = message->handle;
-    reply.stamp = clock;
-    reply.number = message->number;
-    reply.figures = figures_of(visit);
-    *message = reply;
+    struct message back;
+    memset(&back, 0, sizeof back);
+    back.kind = ANSWER;
+    back.source = message->destination;
+    back.destination = t->passage[slot].home;
+    back.handle = message->handle;
+    back.stamp = clock;
+    back.number = message->number;
+    back.figures = figures_of(visit);
+    *message = back;
     return accept(0);
 }
 
@@ -811,6 +835,8 @@ static struct answer deliver(struct tables *t, const struct record *r)
     switch (message->kind) {
     case CALL:
         return deliver_call(t, r->c, clock);
+    case REPLY:
+        return deliver_reply(t, r->c, clock);
     case PHASE_1:
         return deliver_phase_1(t, r->c, clock);
     case PHASE_2:
@@ -897,7 +923,8 @@ static struct answer recover(struct tables *t, const struct record *r)
     return accept(0);
 }
 
-/* "retire h: slot free, generation moves on." */
+/* "retire h: slot free, generation moves on."
+ * Request c: "Retire counts them as messages." */
 static struct answer retire(struct tables *t, const struct record *r)
 {
     if (!handle_is_good(t, r->h))
@@ -949,7 +976,7 @@ static struct answer run_record(struct tables *t, const struct record *r)
 
 /* The names of what a delivery can meet; NOT_A_DELIVERY for other steps and for a deliver that 1 or 2 refuses. */
 enum met {
-    MET_CALL, MET_REFRESH_1, MET_TERMINATE_1, MET_PREPARE_1, MET_REFRESH_2, MET_TERMINATE_2, MET_PREPARE_2,
+    MET_CALL, MET_REPLY, MET_REFRESH_1, MET_TERMINATE_1, MET_PREPARE_1, MET_REFRESH_2, MET_TERMINATE_2, MET_PREPARE_2,
     MET_ANSWER, MET_EMPTY, NOT_A_DELIVERY
 };
 
@@ -963,6 +990,8 @@ static enum met what_is_met(const struct tables *t, const struct record *r)
         return MET_EMPTY;
     case CALL:
         return MET_CALL;
+    case REPLY:
+        return MET_REPLY;
     case ANSWER:
         return MET_ANSWER;
     default: {
@@ -1014,10 +1043,10 @@ static const char *const step_name[RETIRE + 1] = {
 };
 
 static const char *const met_name[NOT_A_DELIVERY] = {
-    "call", "refresh-1", "terminate-1", "prepare-1", "refresh-2", "terminate-2", "prepare-2", "answer", "empty"
+    "call", "reply", "refresh-1", "terminate-1", "prepare-1", "refresh-2", "terminate-2", "prepare-2", "answer", "empty"
 };
 
-enum { NUMBERS = 21, LINES = 256, EDGES = 16 };
+enum { NUMBERS = 21, LINES = 512, EDGES = 32 };
 
 /* How often each pair occurred in this sheet; and each reason for a refusal, and each edge, under its name and the number that was given. */
 static struct {
@@ -1053,6 +1082,82 @@ static int messages_in_flight(const struct tables *t)
     for (int m = 0; m < MESSAGES; m++)
         count += t->message[m].kind != EMPTY;
     return count;
+}
+
+static int replies_in_flight(const struct tables *t)
+{
+    int count = 0;
+    for (int m = 0; m < MESSAGES; m++)
+        count += t->message[m].kind == REPLY;
+    return count;
+}
+
+/* Whether replies are all that stops the passage from being retired. */
+static bool only_replies_remain(const struct tables *t, int slot)
+{
+    int replies = 0;
+    if (t->passage[slot].status != ABORTED && t->passage[slot].status != COMMITTED)
+        return false;
+    for (int s = 0; s < SITES; s++)
+        if (t->visit[s][slot].there)
+            return false;
+    for (int m = 0; m < MESSAGES; m++) {
+        const struct message *message = &t->message[m];
+        if (message->kind == EMPTY || slot_of(message->handle) != slot)
+            continue;
+        if (message->kind != REPLY)
+            return false;
+        replies++;
+    }
+    return replies > 0;
+}
+
+/* What the tables don't tell of a message: the operation that its reply is of, and whether its delivery was refused by 4. */
+static struct operation {
+    bool write, done, refused_by_4;
+    int slot, object;
+    uint32_t left; /* the object's value after it */
+} operation[MESSAGES];
+
+/* What became of a retire that replies alone stopped: nothing yet, or what was done with the last of them. */
+static enum stopped { NOT_STOPPED, STOPPED, COLLECTED, DROPPED } stopped[SLOTS];
+
+/* Keeps of a record that was run what later edges need. */
+static void remember(const struct tables *t, const struct record *r, enum met met, struct answer answer)
+{
+    static const struct operation none;
+    struct operation *of = &operation[r->c % MESSAGES];
+    int slot = slot_of(r->h);
+    if (met != NOT_A_DELIVERY && answer.number == 4)
+        of->refused_by_4 = true;
+    if (r->code == RETIRE && answer.number == 5 && only_replies_remain(t, slot))
+        stopped[slot] = STOPPED;
+    if (answer.number != 0)
+        return;
+    switch (r->code) {
+    case INVOKE:
+    case ASK:
+    case TELL:
+        operation[answer.value] = none;
+        if (r->code == INVOKE) {
+            operation[answer.value].write = r->b == 1;
+            operation[answer.value].slot = slot;
+            operation[answer.value].object = r->c;
+        }
+        break;
+    case DELIVER:
+    case DROP:
+        if (of->done && stopped[of->slot] != NOT_STOPPED)
+            stopped[of->slot] = r->code == DELIVER ? COLLECTED : DROPPED;
+        of->refused_by_4 = false;
+        of->done = met == MET_CALL;
+        if (of->done)
+            of->left = t->object[of->object].value;
+        break;
+    case RETIRE:
+        stopped[slot] = NOT_STOPPED;
+        break;
+    }
 }
 
 /* The edges of the count that invoke tries. n are there already; gives how many there are then. */
@@ -1169,6 +1274,104 @@ static int edges_of_round(const struct tables *t, const struct record *r, uint32
     return n;
 }
 
+/* The edges of a delivered reply. Most of them say what it does not look at. */
+static int edges_of_reply(const struct tables *t, int m, uint32_t clock, const char *edge[EDGES], int n)
+{
+    static const char *const passage_is[] = {
+        "passage slot free", "passage active", "passage committing", "passage aborted", "passage committed"
+    };
+    const struct message *message = &t->message[m];
+    const struct operation *of = &operation[m];
+    int slot = slot_of(message->handle);
+    const struct passage *passage = &t->passage[slot];
+    const struct visit *visit = &t->visit[message->destination][slot];
+    uint32_t own = t->site[message->destination].clock;
+    edge[n++] = passage_is[passage->status];
+    if (passage->round.phase != 0)
+        edge[n++] = passage->round.phase == 1 ? "round in phase 1" : "round in phase 2";
+    if (!visit->there) {
+        edge[n++] = "no visit there";
+        if (passage->status == ABORTED)
+            edge[n++] = "passage aborted, no visit there";
+    } else {
+        if (clock + 1 == visit->q)
+            edge[n++] = "at the visit's Q - 1";
+        if (clock == visit->q)
+            edge[n++] = "at the visit's Q";
+        if (clock > visit->q)
+            edge[n++] = "past the visit's Q";
+        if (clock >= visit->r)
+            edge[n++] = "at the visit's R or past it";
+        if (visit->dead)
+            edge[n++] = "visit dead";
+        if (visit->prepared)
+            edge[n++] = "visit prepared";
+        if (visit->received == CALLS_MAX)
+            edge[n++] = "1,000 calls received there";
+    }
+    edge[n++] = message->destination == passage->home ? "to home" : "to a station that isn't home";
+    edge[n++] = message->source == message->destination ? "of a call within one station" : "from another station";
+    if (t->site[message->source].down && message->source != message->destination)
+        edge[n++] = "the station that it comes from down";
+    edge[n++] = message->found == 0 ? "value 0" : "value above 0";
+    if (message->found == VALUE_MAX)
+        edge[n++] = "value 1,000,000";
+    edge[n++] = of->write ? "of a write" : "of a read";
+    if (of->write && message->found != of->left)
+        edge[n++] = "of a write, with another value than the one written";
+    if (t->object[of->object].value != of->left)
+        edge[n++] = "its object changed since";
+    edge[n++] = message->stamp > own ? "stamp ahead of the clock" : message->stamp < own ? "stamp behind the clock" : "stamp equal to the clock";
+    if (message->stamp == TIME_MAX - 1)
+        edge[n++] = "stamp 999,999,999";
+    if (of->refused_by_4)
+        edge[n++] = "refused by 4 before";
+    return n;
+}
+
+/* The edges that replies in flight make for a step that is no delivery. */
+static int edges_with_replies(const struct tables *t, const struct record *r, const char *edge[EDGES], int n)
+{
+    int slot = slot_of(r->h), replies = replies_in_flight(t);
+    bool of_slot = false, to_site = false;
+    for (int m = 0; m < MESSAGES; m++) {
+        const struct message *message = &t->message[m];
+        of_slot |= message->kind == REPLY && slot_of(message->handle) == slot;
+        to_site |= message->kind == REPLY && message->destination == r->a;
+    }
+    switch (r->code) {
+    case INVOKE:
+    case ASK:
+    case TELL:
+        if (replies == MESSAGES - 1 && messages_in_flight(t) == replies)
+            edge[n++] = "31 replies in flight and nothing else";
+        if (replies == MESSAGES)
+            edge[n++] = "32 replies in flight";
+        break;
+    case CLOSE:
+        if (of_slot)
+            edge[n++] = "a reply of it in flight";
+        break;
+    case DROP:
+        if (t->message[r->c].kind == REPLY)
+            edge[n++] = t->site[t->message[r->c].destination].down ? "a reply to a station that is down" : "a reply";
+        break;
+    case CRASH:
+        if (to_site)
+            edge[n++] = "a reply on its way there";
+        break;
+    case RETIRE:
+        if (only_replies_remain(t, slot))
+            edge[n++] = "only replies of it remain";
+        if (stopped[slot] == COLLECTED)
+            edge[n++] = "the last reply that stopped it collected";
+        if (stopped[slot] == DROPPED)
+            edge[n++] = "the last reply that stopped it dropped";
+        break;
+    }
+    return n;
+}
+
 /* The edges at which a record stands, read from the tables before it is run. Gives how many there are. */
 static int edges_of(const struct tables *t, const struct record *r, const char *edge[EDGES])
 {
@@ -1234,7 +1437,15 @@ static int edges_of(const struct tables *t, const struct record *r, const char *
         if (clock == q)
             edge[n++] = visit->there ? "at the visit's Q" : "at the message's Q";
         n = edges_of_received(t, message, clock, edge, n);
+        if (lowest_empty_message(t) < r->c)
+            edge[n++] = "a lower message slot empty";
+        if (replies_in_flight(t) == MESSAGES - 1)
+            edge[n++] = "31 replies in flight";
     }
+    if (delivery && message->kind == REPLY)
+        n = edges_of_reply(t, r->c, clock, edge, n);
+    if (!delivery)
+        n = edges_with_replies(t, r, edge, n);
     if (opens)
         n = edges_of_round(t, r, clock, edge, n);
     if (delivery && messages_in_flight(t) == MESSAGES)
@@ -1360,8 +1571,10 @@ int main(int argc, char **argv)
         end = put_number(end, (uint32_t)(i + 1), ' ');
         end = put_number(end, (uint32_t)answer.number, ' ');
         end = put_number(end, answer.value, '\n');
-        if (pairs)
+        if (pairs) {
             count_pair(&r, met, answer);
+            remember(&t, &r, met, answer);
+        }
         while (edges > 0)
             count_line("edge", name_of(&r, met), answer.number, edge[--edges]);
     }

@@ -5,7 +5,7 @@ use checks::or_else;
 use checks::refuse;
 use checks::settle;
 use checks::site_down;
-use parts::message::no_message;
+use parts::message::plain_message;
 use parts::object::is_held_by_other;
 use parts::object::operated;
 use parts::object::taken;
@@ -18,12 +18,14 @@ use rules::limits::COUNT_MOST;
 use rules::looking::Seen;
 use rules::outcomes::Decision;
 use rules::outcomes::Refusal;
+use rules::tables::Body;
 use rules::tables::Call;
+use rules::tables::Message;
 use rules::tables::Object;
 use rules::tables::Visit;
 ghost use mathlib.Core.Path.{_≡_};
 ghost use Rattle.rules.specs.Sane.{Sane};
-ghost use Rattle.rules.specs.Calls.{calledVisit, calledObject, called, deliverCallOf};
+ghost use Rattle.rules.specs.Calls.{calledVisit, calledObject, replyTo, called, deliverCallOf};
 
 // The visit that is there, or one made from the call.
 fn called_visit(call: Call, v: Visit) -> Visit
@@ -45,7 +47,24 @@ fn called_object(call: Call, seen: Seen) -> Object
     objects[at]
 }
 
-// What a delivered call leaves at this clock.
+// The reply, with the value before the operation, from this site to the one that called.
+fn reply_to(call: Call, clock: u64, seen: Seen) -> Message
+    ensures { λ r. ⌜ r ≡ replyTo call clock seen ⌝ }
+{
+    let m = seen.message;
+    let object = called_object(call, seen);
+    plain_message(
+        Body::Reply {
+            value: object.value,
+        },
+        m.destination,
+        m.source,
+        m.handle,
+        clock,
+    )
+}
+
+// What a delivered call leaves at this clock: its reply stands in its slot.
 fn called(call: Call, clock: u64, seen: Seen) -> Seen
     requires { ⌜ Sane seen ⌝ }
     ensures { λ r. ⌜ r ≡ called call clock seen ⌝ }
@@ -55,7 +74,7 @@ fn called(call: Call, clock: u64, seen: Seen) -> Seen
     let slot = mail_slot(seen);
     let site = clock_to(s, clock);
     let visit = count_received(called_visit(call, v));
-    let message = no_message();
+    let message = reply_to(call, clock, seen);
     let mut objects = seen.objects;
     let at = (call.object % 4) as usize;
     let object = operated(call, taken(slot, objects[at]));
@@ -89,5 +108,5 @@ pub fn deliver_call(m: u8, call: Call, seen: Seen) -> Decision
     );
     let tried = or_else(tried, refuse(Refusal::NoCallLeft, COUNT_MOST <= v.received));
     let left = called(call, clock, seen);
-    settle(tried, object.value as u64, left, seen)
+    settle(tried, 0, left, seen)
 }

@@ -30,8 +30,8 @@ use Rattle.rules.specs.EffectsRounds.{Opened, prepare-effects, AskSent, ask-eff
 use Rattle.rules.specs.EffectsPhases.{AskDelivered, ask-delivered-effects, AnswerDelivered, answer-delivered-effects}
 use Rattle.clearing.specs.declared.Way.{Way}
 use Rattle.clearing.specs.Question.{listed, isToAsk, hasObjectAt}
-use Rattle.clearing.specs.Clearing.{made, thenMade, mailIn, askOne, asksUpTo, readAll, prepareMade, closeMade}
-use Rattle.clearing.specs.Underway.{Course, Runs, Near, Between, InFlight, Going, going-on, going-as, stops-between, stops-in-flight, runs-on, near-on, read-on, kept-on, others-on, emptied-on, was-empty, mail-is}
+use Rattle.clearing.specs.Clearing.{made, askOne, asksUpTo, readAll, prepareMade, closeMade}
+use Rattle.clearing.specs.Underway.{Course, Runs, Near, Between, InFlight, Going, going-on, going-as, goes-there-and-back, stops-between, stops-in-flight, runs-on, near-on, read-on, kept-on, others-on, emptied-on, was-empty}
 use Rattle.clearing.specs.Reads.{reads-go}
 
 module _ (course : Course) where
@@ -131,7 +131,7 @@ module _ (course : Course) where
             rw (says .destination, says .handle) at (ask-delivered-effects t m v (r .sized) e (says .number) (says .asked) (says .body)) in
             let away : s ≢ passageAt t (slotOf h) .home = rw (r .lives) (says .away) in
             let l : deliveryClock (siteAt t s) (messageAt t m) ≤ c + 1 = omega arith in
-            let reply = d .reply away in
+            let back = d .answer away in
             record {
               running =
                   runs-on course t (Step.Deliver m) c (c + 1) s _ (passageAt t (slotOf h)) r (ap isAccepted e) (d .reached .clock) l (omega arith)
@@ -139,12 +139,12 @@ module _ (course : Course) where
               read = read-on course (d .objects) (f .read);
               near = near-on course n c (c + 1) s _ (f .near) (d .reached .clock) l (omega arith);
               below = f .below;
-              full = rw (reply .here);
+              full = rw (back .here);
               says =
-                  rw (reply .here)
+                  rw (back .here)
                   (record { number = _; received = _; quiesce = _; body = refl; destination = r .lives; handle = says .handle; stamp = l });
               was = f .was;
-              mail = others-on course t t′ reply (f .mail);
+              mail = others-on course t t′ back (f .mail);
             };
         stops = λ r e. stops-in-flight course t m n c r f room e;
       }
@@ -194,16 +194,11 @@ module _ (course : Course) where
       → Going course (λ (t : Tables) (v : ℕ). Between course t (length objects) (c + 1 + 1 + 1)) (askOne h w s)
   unfolding askOne
   ask-goes w c s room has g =
-      let asked : Way = thenMade w (Step.Ask h s) in
-      let arrived : Way = thenMade asked (Step.Deliver (mailIn asked)) in
-      going-on course arrived (Step.Deliver (mailIn asked))
-      (going-on course asked (Step.Deliver (mailIn asked))
-      (going-on course w (Step.Ask h s) g (λ v e b. ask-made (w .tables) (length objects) c s (omega arith) b))
-      (λ v e f.
-      ask-arrived (asked .tables) (mailIn asked) (length objects) (c + 1) s (omega arith)
-      (station-near (asked .tables) (c + 1) s (f .near) has)
-      (subst (λ (m : ℕ). InFlight course (asked .tables) m (length objects) (c + 1) (Asks s (c + 1))) (sym (mail-is course asked v e (f .below))) f)))
-      (λ v e f. answer-arrived (arrived .tables) (mailIn asked) (length objects) (c + 1 + 1) (omega arith) f)
+      goes-there-and-back course w (Step.Ask h s) g
+      (λ v b. going-as course _ (ask-made (w .tables) (length objects) c s (omega arith) b) (λ m e f. (f .below, f)))
+      (λ t m (f : InFlight course t m (length objects) (c + 1) (Asks s (c + 1))).
+      ask-arrived t m (length objects) (c + 1) s (omega arith) (station-near t (c + 1) s (f .near) has) f)
+      (λ t m f. answer-arrived t m (length objects) (c + 1 + 1) (omega arith) f)
 
   -- what bounds the clocks may be larger
   between-most : (t : Tables) (n c b : ℕ) → c ≤ b → Between course t n c → Between course t n b

@@ -44,17 +44,19 @@ widthIn w = answerValue (w .answer) % 4294967296
 
 -- ---- the steps of a passage that was begun: h is its handle
 
--- "invoke h at home, read; deliver m, m that invoke's value. The deliver's value is the width."
+-- a step that sends a message, its delivery, and the delivery of what then stands in the same slot
+unfoldable pub thereAndBack : Way → Step → Way
+thereAndBack w s =
+    let sent : Way = thenMade w s in
+    thenMade (thenMade sent (Step.Deliver (mailIn sent))) (Step.Deliver (mailIn sent))
+
+-- "invoke h at home, read; deliver m, m that invoke's value"; since request c m is delivered a second time, and the width is the reply's value
 unfoldable pub readOne : ℕ → ℕ → Way → ℕ → Way
-readOne h home w object =
-    let called : Way = thenMade w (Step.Invoke h home 0 object 0) in
-    thenMade called (Step.Deliver (mailIn called))
+readOne h home w object = thereAndBack w (Step.Invoke h home 0 object 0)
 
 -- "ask; deliver m; deliver m (the answer, same slot)"
 unfoldable pub askOne : ℕ → Way → ℕ → Way
-askOne h w site =
-    let asked : Way = thenMade w (Step.Ask h site) in
-    thenMade (thenMade asked (Step.Deliver (mailIn asked))) (Step.Deliver (mailIn asked))
+askOne h w site = thereAndBack w (Step.Ask h site)
 
 -- "tell; if accepted, deliver m"
 unfoldable pub tellOne : ℕ → Tables → ℕ → Tables

@@ -33,7 +33,7 @@ use Rattle.clearing.specs.declared.Way.{Way}
 use Rattle.clearing.specs.declared.Verdict.{Verdict}
 use Rattle.clearing.specs.declared.Cleared.{Cleared}
 use Rattle.clearing.specs.Question.{listed, isToAsk, isFitting}
-use Rattle.clearing.specs.Clearing.{made, thenMade, handleIn, mailIn, widthIn, readsUpTo, widthsUpTo, readAll, prepareMade, askOne, asksUpTo, givenUp, begunOf, clearedOf}
+use Rattle.clearing.specs.Clearing.{made, thenMade, handleIn, mailIn, widthIn, thereAndBack, readsUpTo, widthsUpTo, readAll, prepareMade, askOne, asksUpTo, givenUp, begunOf, clearedOf}
 use Rattle.clearing.specs.Underway.{Course, Runs, HoldsRead, Between, Kept, CanGiveUp, Going, kept-on, emptied-on}
 use Rattle.clearing.specs.Reads.{reads-go}
 use Rattle.clearing.specs.Asks.{prepare-goes, close-goes}
@@ -49,7 +49,7 @@ then-made : (w : Way) (s : Step) → isAccepted (w .answer) ≡ true → thenMad
 then-made w s e = rw e
 
 ask-accepted : (h : ℕ) (w : Way) (s : ℕ) → isAccepted (askOne h w s .answer) ≡ true → isAccepted (w .answer) ≡ true
-unfolding askOne
+unfolding askOne thereAndBack
 ask-accepted h w s e =
     let asked : Way = thenMade w (Step.Ask h s) in
     let arrived : Way = thenMade asked (Step.Deliver (mailIn asked)) in

@@ -8,7 +8,7 @@ use Rattle.rules.specs.declared.tables.Tables.{Tables}
 use Rattle.rules.specs.declared.steps.Step.{Step}
 use Rattle.rules.specs.declared.outcomes.Refusal.{Refusal}
 use Rattle.rules.specs.Answers.{firstOf}
-use Rattle.rules.specs.Calls.{deliverAnswerOf, deliverBodyOf, deliverCallOf, deliverPhaseOneOf, deliverPhaseTwoOf, dropOf, invokeOf}
+use Rattle.rules.specs.Calls.{deliverAnswerOf, deliverBodyOf, deliverCallOf, deliverReplyOf, deliverPhaseOneOf, deliverPhaseTwoOf, dropOf, invokeOf}
 use Rattle.rules.specs.Loops.{everyUpTo, firstUpTo, mostUpTo, someUpTo, sumUpTo}
 use Rattle.rules.specs.Machine.{decideOf, headOf, lowestEmpty, placesOf, remains, stepInRangeOf, stepOf, stored, turnsUpTo}
 use Rattle.rules.specs.Parts.{answerCount, isClosed, largestQuiesce, sentTo}
@@ -17,7 +17,7 @@ use Rattle.rules.specs.Ranges.{countsInRange, inRange, roundInRange}
 use Rattle.rules.specs.Rounds.{askOf, closeOf, openOf, prepareOf, tellOf}
 use Rattle.rules.specs.Tables.{start}
 use Rattle.clearing.specs.declared.Verdict.{Verdict}
-use Rattle.clearing.specs.Clearing.{readOne, readsUpTo, widthsUpTo, readCount, askOne, asksUpTo, tellOne, tellsUpTo, clearedOf}
+use Rattle.clearing.specs.Clearing.{thereAndBack, readOne, readsUpTo, widthsUpTo, readCount, askOne, asksUpTo, tellOne, tellsUpTo, clearedOf}
 
 -- the start, with 13,000 at object 0 and 12,500 at object 4, which this one holds
 abbrev twoWidths : Holder → Tables
@@ -40,5 +40,5 @@ said holder beam = clearedOf (twoWidths holder) beam 0 (0 ∷ 4 ∷ []) 0 2 500 
 pub each-is-said :
     (said Holder.Nobody 12500 ≡ Verdict.Fits) × (said Holder.Nobody 12501 ≡ Verdict.Narrow)
     × (said (Holder.Slot 1) 12500 ≡ Verdict.NoReading (Step.Deliver 0) Refusal.Held)
-unfolding firstOf deliverAnswerOf deliverBodyOf deliverCallOf deliverPhaseOneOf deliverPhaseTwoOf dropOf invokeOf everyUpTo firstUpTo mostUpTo someUpTo sumUpTo decideOf headOf lowestEmpty placesOf remains stepInRangeOf stepOf stored turnsUpTo answerCount isClosed largestQuiesce sentTo abortOf beginOf countsInRange inRange roundInRange askOf closeOf openOf prepareOf tellOf start readOne readsUpTo widthsUpTo readCount askOne asksUpTo tellOne tellsUpTo clearedOf
+unfolding firstOf deliverAnswerOf deliverBodyOf deliverCallOf deliverReplyOf deliverPhaseOneOf deliverPhaseTwoOf dropOf invokeOf everyUpTo firstUpTo mostUpTo someUpTo sumUpTo decideOf headOf lowestEmpty placesOf remains stepInRangeOf stepOf stored turnsUpTo answerCount isClosed largestQuiesce sentTo abortOf beginOf countsInRange inRange roundInRange askOf closeOf openOf prepareOf tellOf start thereAndBack readOne readsUpTo widthsUpTo readCount askOne asksUpTo tellOne tellsUpTo clearedOf
 each-is-said = (refl, refl, refl)

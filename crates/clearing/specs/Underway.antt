@@ -38,7 +38,7 @@ use Rattle.rules.specs.EffectsLaws.{OnlyMessage, ClockMoves}
 use Rattle.rules.specs.EffectsPlaces.{in-range-after-accepted, InUse}
 use Rattle.clearing.specs.declared.Way.{Way}
 use Rattle.clearing.specs.Question.{listed}
-use Rattle.clearing.specs.Clearing.{made, thenMade, mailIn, widthIn, readsUpTo}
+use Rattle.clearing.specs.Clearing.{made, thenMade, mailIn, widthIn, thereAndBack, readsUpTo}
 
 -- ---- clocks
 
@@ -46,12 +46,12 @@ module _ {t t′ : Tables} {s c : ℕ} (e : ClockMoves t t′ s c) where
   pub clock-here : siteAt t′ s .clock ≡ c
   clock-here = ap (λ (x : Site). x .clock) (e .site .here)
 
-  -- whatever bounds the clock that moves bounds every clock that it bounded before
-  clock-most : (b k : ℕ) → c ≤ b → siteAt t k .clock ≤ b → siteAt t′ k .clock ≤ b
-  clock-most b k l m =
+  -- what holds of the clock that moves holds of every clock of which it held before
+  pub clock-has : (P : ℕ → Type 0) (k : ℕ) → P c → P (siteAt t k .clock) → P (siteAt t′ k .clock)
+  clock-has P k new old =
       ⊎-elim
-      (λ y. let q : k ≡ s = eqb-true k s y in rw (q, clock-here) l)
-      (λ y. rw (e .site .others k (eqb-false k s y)) m)
+      (λ y. let q : k ≡ s = eqb-true k s y in rw (q, clock-here) new)
+      (λ y. rw (e .site .others k (eqb-false k s y)) old)
       (either (eqb k s))
 
   up-stays : (k : ℕ) → siteAt t k .up ≡ true → siteAt t′ k .up ≡ true
@@ -176,6 +176,10 @@ module _ (course : Course) where
 
   -- ---- one step after the other
 
+  -- the slot that a step answered is the one that the next ones name
+  mail-is : (w : Way) (v : ℕ) → w .answer ≡ Answer.Accepted v → v < 32 → mailIn w ≡ v
+  mail-is w v e l = rw e (omega arith)
+
   pub going-on :
       {P Q : Tables → ℕ → Type 0} (w : Way) (s : Step) → Going P w
       → ((v : ℕ) → w .answer ≡ Answer.Accepted v → P (w .tables) v → Going Q (made (w .tables) s))
@@ -195,6 +199,22 @@ module _ (course : Course) where
       → ((v : ℕ) → w .answer ≡ Answer.Accepted v → P (w .tables) v → Q (w .tables) v)
       → Going Q w
   going-as w g f = record { goes = λ v e. f v e (g .goes v e); stops = g .stops }
+
+  -- a message goes out into slot m, arrives there, and what then stands in it comes back
+  pub goes-there-and-back :
+      {P Back : Tables → ℕ → Type 0} {Sent There : ℕ → Tables → Type 0} (w : Way) (s : Step) → Going P w
+      → ((v : ℕ) → P (w .tables) v → Going (λ (t : Tables) (m : ℕ). (m < 32) × Sent m t) (made (w .tables) s))
+      → ((t : Tables) (m : ℕ) → Sent m t → Going (λ (u : Tables) (v : ℕ). There m u) (made t (Step.Deliver m)))
+      → ((t : Tables) (m : ℕ) → There m t → Going Back (made t (Step.Deliver m)))
+      → Going Back (thereAndBack w s)
+  unfolding thereAndBack
+  goes-there-and-back {Sent = Sent} w s g sends arrives returns =
+      let sent : Way = thenMade w s in
+      let there : Way = thenMade sent (Step.Deliver (mailIn sent)) in
+      going-on there (Step.Deliver (mailIn sent))
+      (going-on sent (Step.Deliver (mailIn sent)) (going-on w s g (λ v e. sends v))
+      (λ v e f. arrives (sent .tables) (mailIn sent) (subst (λ (m : ℕ). Sent m (sent .tables)) (sym (mail-is sent v e (f .0))) (f .1))))
+      (λ v e. returns (there .tables) (mailIn sent))
 
   -- a step that was refused has left the tables
   left-as-was : (t : Tables) (s : Step) (r : Refusal) → stepOf t s .answer ≡ Answer.Refused r → t ≡ stepOf t s .tables
@@ -255,12 +275,12 @@ module _ (course : Course) where
         lives = rw e (same-home ∙ r .lives);
         asks = rw e asks;
         up = up-stays moves home (r .up);
-        clock = clock-most moves b home l (let y : siteAt t home .clock ≤ c = r .clock in omega arith);
+        clock = clock-has moves (λ (x : ℕ). x ≤ b) home l (let y : siteAt t home .clock ≤ c = r .clock in omega arith);
       }
 
   pub near-on : {t t′ : Tables} (n c b k d : ℕ) → Near t n c → ClockMoves t t′ k d → d ≤ b → c ≤ b → Near t′ n b
   near-on {t} n c b k d near moves l l′ i y =
-      clock-most moves b _ l (let z : siteAt t (objectSite (listed objects i)) .clock ≤ c = near i y in omega arith)
+      clock-has moves (λ (x : ℕ). x ≤ b) _ l (let z : siteAt t (objectSite (listed objects i)) .clock ≤ c = near i y in omega arith)
 
   pub read-on : {t t′ : Tables} {n : ℕ} → t′ .objects ≡ t .objects → HoldsRead t n → HoldsRead t′ n
   read-on e r = record { holds = λ i l. rw e (r .holds i l); value = λ i l. rw e (r .value i l) }
@@ -291,7 +311,3 @@ module _ (course : Course) where
   pub was-empty : (t : Tables) (m : ℕ) → Kept t m → isEmpty (messageAt t m .body) ≡ true → isEmpty (messageAt t₀ m .body) ≡ true
   was-empty t m k e =
       ⊎-elim (λ y. y) (λ y. absurd (true≢false (sym e ∙ ap (λ (x : Message). isEmpty (x .body)) (k .full y) ∙ y))) (either (isEmpty (messageAt t₀ m .body)))
-
-  -- the slot that a step answered is the one that the next ones name
-  pub mail-is : (w : Way) (v : ℕ) → w .answer ≡ Answer.Accepted v → v < 32 → mailIn w ≡ v
-  mail-is w v e l = rw e (omega arith)

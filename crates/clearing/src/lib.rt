@@ -20,7 +20,7 @@ ghost use mathlib.Core.Path.{_≡_};
 ghost use lib.ListN.{length};
 ghost use Rattle.rules.specs.Loops.{oneIf};
 ghost use Rattle.rules.specs.Answers.{isAccepted, answerValue};
-ghost use Rattle.clearing.specs.Clearing.{made, thenMade, handleIn, mailIn, widthIn, readOne, readsUpTo, widthsUpTo, readCount, askOne, asksUpTo, tellOne, tellsUpTo, dropped, givenUp, refusedBy, noReading, committed, endedOf, wentOf, checkedOf, clearedOf};
+ghost use Rattle.clearing.specs.Clearing.{made, thenMade, handleIn, mailIn, widthIn, thereAndBack, readOne, readsUpTo, widthsUpTo, readCount, askOne, asksUpTo, tellOne, tellsUpTo, dropped, givenUp, refusedBy, noReading, committed, endedOf, wentOf, checkedOf, clearedOf};
 
 // What a check refuses by itself, before any step, in the order in which it is tried.
 pub enum OwnRefusal {
@@ -130,7 +130,17 @@ fn one_if_accepted(w: Way) -> usize
     }
 }
 
-// A read from home: its call, and the call's delivery.
+// A step that sends a message, its delivery, and the delivery of what then stands in the same slot.
+fn there_and_back(w: Way, s: Step) -> Way
+    ensures { λ r. ⌜ r ≡ thereAndBack w s ⌝ }
+{
+    let sent = then_make(w, s);
+    let m = mail_in(sent);
+    let arrived = then_make(sent, Step::Deliver { message: m });
+    then_make(arrived, Step::Deliver { message: m })
+}
+
+// A read from home: its call goes out and arrives, and the reply comes home with the width.
 fn read_one(h: u16, home: u8, w: Way, object: u8) -> Way
     ensures { λ r. ⌜ r ≡ readOne h home w object ⌝ }
 {
@@ -141,9 +151,7 @@ fn read_one(h: u16, home: u8, w: Way, object: u8) -> Way
         object: object,
         value: 0,
     };
-    let called = then_make(w, call);
-    let m = mail_in(called);
-    then_make(called, Step::Deliver { message: m })
+    there_and_back(w, call)
 }
 
 fn read_all(h: u16, home: u8, objects: &[u8], begun: Way) -> Reads
@@ -168,7 +176,7 @@ fn read_all(h: u16, home: u8, objects: &[u8], begun: Way) -> Reads
     }
 }
 
-// A station is asked: phase 1 goes out and arrives, and its answer comes home in the same slot.
+// A station is asked: phase 1 goes out and arrives, and its answer comes home.
 fn ask_one(h: u16, w: Way, site: u8) -> Way
     ensures { λ r. ⌜ r ≡ askOne h w site ⌝ }
 {
@@ -176,10 +184,7 @@ fn ask_one(h: u16, w: Way, site: u8) -> Way
         handle: h,
         site: site,
     };
-    let asked = then_make(w, question);
-    let m = mail_in(asked);
-    let arrived = then_make(asked, Step::Deliver { message: m });
-    then_make(arrived, Step::Deliver { message: m })
+    there_and_back(w, question)
 }
 
 fn ask_all(h: u16, home: u8, objects: &[u8], prepared: Way) -> Way

@@ -1,4 +1,5 @@
-// A message is delivered, by what its slot holds: a call, a phase 1 or phase 2 message, an answer, or nothing.
+// A message is delivered, by what its slot holds: a call, a phase 1 or phase 2 message, an answer, a reply, or nothing.
+use calls::collected::deliver_reply;
 use calls::delivered::deliver_call;
 use checks::bad_message;
 use checks::clock_full;
@@ -102,5 +103,6 @@ pub fn deliver(m: u8, seen: Seen) -> Decision
             received,
             quiesce,
         } => deliver_answer(m, number, received, quiesce, seen),
+        Body::Reply { value } => deliver_reply(m, value, seen),
     }
 }

@@ -22,6 +22,7 @@ pub fn is_empty(b: Body) -> bool
             received: _,
             quiesce: _,
         } => false,
+        Body::Reply { value: _ } => false,
     }
 }
 

@@ -34,7 +34,7 @@ use rules::tables::Visit;
 ghost use mathlib.Core.Path.{_≡_};
 ghost use Rattle.checks.specs.Order.{triedAll};
 ghost use Rattle.rules.specs.Sane.{Sane};
-ghost use Rattle.rules.specs.Calls.{roundChecks, statusAtHome, replyOf, askedAt, deliverPhaseOneOf, toldAt, deliverPhaseTwoOf};
+ghost use Rattle.rules.specs.Calls.{roundChecks, statusAtHome, answerBack, askedAt, deliverPhaseOneOf, toldAt, deliverPhaseTwoOf};
 
 // What a delivered phase 1 or phase 2 message tries.
 fn round_tried(m: u8, life: bool, wrong: bool, clock: u64, seen: Seen) -> Check
@@ -62,8 +62,8 @@ fn status_at_home(status: Status, seen: Seen) -> Passage
 }
 
 // Away from home the message's slot then holds the answer.
-fn reply_of(v: Visit, clock: u64, seen: Seen) -> Message
-    ensures { λ r. ⌜ r ≡ replyOf v clock seen ⌝ }
+fn answer_back(v: Visit, clock: u64, seen: Seen) -> Message
+    ensures { λ r. ⌜ r ≡ answerBack v clock seen ⌝ }
 {
     let m = seen.message;
     let p = seen.passage;
@@ -85,7 +85,7 @@ fn asked_at(number: u16, asked: Asked, clock: u64, seen: Seen) -> Seen
     let site = clock_to(s, clock);
     let passage = status_at_home(asked_status(asked, status), seen);
     let visit = asked_visit(asked, number, clock, v);
-    let message = reply_of(visit, clock, seen);
+    let message = answer_back(visit, clock, seen);
     let mut left = seen;
     left.site = site;
     left.passage = passage;

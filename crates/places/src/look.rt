@@ -193,6 +193,7 @@ fn body_bank(body: Body, s: usize) -> usize
             received: _,
             quiesce: _,
         } => s,
+        Body::Reply { value: _ } => s,
     }
 }
 

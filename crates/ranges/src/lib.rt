@@ -191,6 +191,7 @@ fn body_in_range(b: Body) -> bool
             received,
             quiesce,
         } => (number <= COUNT_MOST) & (received <= COUNT_MOST) & (quiesce <= TIME_MOST),
+        Body::Reply { value } => value <= WIDTH_MOST,
     }
 }
 

@@ -82,7 +82,7 @@ mailClock seen = deliveryClock (seen .site) (seen .message)
 abbrev pub mailSlot : Seen → ℕ
 mailSlot seen = slotOf (seen .message .handle)
 
--- is the message delivered at its passage's own home? (In a run only answers and calls are.)
+-- is the message delivered at its passage's own home? (In a run only answers, calls and replies are.)
 abbrev pub atHome : Seen → Bool
 atHome seen = eqb (seen .message .destination) (seen .passage .home)
 
@@ -117,23 +117,56 @@ callChecks m c seen =
     ∷ refuse Refusal.NoCallLeft (leb countMost (calledVisit c (seen .visit) .received))
     ∷ []
 
+-- Request c: "A delivered call leaves a reply in its slot, addressed to the calling site": with "the object's value before the operation".
+-- "Replies carry no quiesce or release time": of the call its handle stays, and its two sites change places.
+abbrev pub replyTo : Call → ℕ → Seen → Message
+replyTo c clock seen =
+    plainMessage
+    (Body.Reply (calledObject c seen .value))
+    (seen .message .destination)
+    (seen .message .source)
+    (seen .message .handle)
+    clock
+
 -- "Received grows by 1. The object is taken if unheld, then read or written."
 abbrev pub called : Call → ℕ → Seen → Seen
 called c clock seen =
     leftObjects
-    (leftMessage (leftVisit (atClock seen clock) (countReceived (calledVisit c (seen .visit)))) noMessage)
+    (leftMessage
+    (leftVisit (atClock seen clock) (countReceived (calledVisit c (seen .visit))))
+    (replyTo c clock seen))
     (set (seen .objects) (c .object % 4) (operated c (taken (mailSlot seen) (calledObject c seen))))
 
--- "Value: the object's value before the operation."
+-- Request c: "The operation delivery's value becomes 0."
 abbrev pub callDone : ℕ → Call → Seen → Decision
 callDone m c seen =
     record {
-      answer = firstOf (callChecks m c seen) (calledObject c seen .value);
+      answer = firstOf (callChecks m c seen) 0;
       left = called c (mailClock seen) seen;
     }
 
 unfoldable pub deliverCallOf : ℕ → Call → Seen → Decision
 deliverCallOf m c seen = settleOf (callDone m c seen) seen
+
+-- Request c: "Refusals: none new; a reply to a down site is 4." No visit is needed, and no time is looked at.
+abbrev pub replyChecks : ℕ → Seen → List Check
+replyChecks m seen =
+    refuse Refusal.BadField (badMessage m) ∷ siteDown seen ∷ clockFull (mailClock seen) ∷ []
+
+-- a reply is collected: it moves the clock of the calling site, and its slot is emptied
+abbrev pub collected : ℕ → Seen → Seen
+collected clock seen = leftMessage (atClock seen clock) noMessage
+
+-- Request c: "delivering that gives the value and moves the clock"
+abbrev pub replyDone : ℕ → ℕ → Seen → Decision
+replyDone m value seen =
+    record {
+      answer = firstOf (replyChecks m seen) value;
+      left = collected (mailClock seen) seen;
+    }
+
+unfoldable pub deliverReplyOf : ℕ → ℕ → Seen → Decision
+deliverReplyOf m value seen = settleOf (replyDone m value seen) seen
 
 -- what a delivered phase 1 or phase 2 message tries. 8: "delivered refresh or prepare message of either phase: visit dead"
 abbrev pub roundChecks : ℕ → Bool → Bool → ℕ → Seen → List Check
@@ -153,8 +186,8 @@ abbrev pub statusAtHome : Status → Seen → Passage
 statusAtHome s seen = cond (atHome seen) (withStatus (seen .passage) s) (seen .passage)
 
 -- "Away from home the message's slot then holds the answer, sent back to home"
-abbrev pub replyOf : Visit → ℕ → Seen → Message
-replyOf v clock seen =
+abbrev pub answerBack : Visit → ℕ → Seen → Message
+answerBack v clock seen =
     cond
     (atHome seen)
     noMessage
@@ -171,7 +204,7 @@ askedAt n asked clock seen =
     (leftVisit
     (leftPassage (atClock seen clock) (statusAtHome (askedStatus asked (seen .passage .status)) seen))
     (askedVisit asked n clock (seen .visit)))
-    (replyOf (askedVisit asked n clock (seen .visit)) clock seen)
+    (answerBack (askedVisit asked n clock (seen .visit)) clock seen)
 
 -- 9: "delivered phase 1: number ≤ the visit's"
 abbrev pub phaseOneDone : ℕ → ℕ → Asked → Seen → Decision
@@ -244,6 +277,7 @@ deliverBodyOf (Body.Call c) m seen = deliverCallOf m c seen
 deliverBodyOf (Body.PhaseOne n asked) m seen = deliverPhaseOneOf m n asked seen
 deliverBodyOf (Body.PhaseTwo n told) m seen = deliverPhaseTwoOf m n told seen
 deliverBodyOf (Body.Answer n received q) m seen = deliverAnswerOf m n received q seen
+deliverBodyOf (Body.Reply value) m seen = deliverReplyOf m value seen
 
 abbrev pub deliverOf : ℕ → Seen → Decision
 deliverOf m seen = deliverBodyOf (seen .message .body) m seen

@@ -1,4 +1,4 @@
--- What an accepted invoke, the delivery of its call and a drop needed and left. Assumes nothing.
+-- What an accepted invoke, the delivery of its call, that of the call's reply and a drop needed and left. Assumes nothing.
 use Prim.Native.Nat.{ℕ, _%_, _≤_, _<_}
 use native.Mathlib.Omega.{arith}
 use mathlib.Core.Path.{_≡_, refl, ap, _∙_}
@@ -15,7 +15,7 @@ use Rattle.rules.specs.Ranges.{inRange}
 use Rattle.rules.specs.Answers.{isAccepted, firstOf, settleOf}
 use Rattle.rules.specs.Parts.{nextClock, deliveryClock, countSent, countReceived, isHeldByOther, isEmpty, taken, operated, plainMessage}
 use Rattle.rules.specs.Checks.{badMessage}
-use Rattle.rules.specs.Calls.{callSite, invokeChecks, callOf, invoked, invokeOf, mailClock, calledVisit, calledObject, callChecks, called, deliverCallOf, deliverBodyOf, dropChecks, lost, dropOf}
+use Rattle.rules.specs.Calls.{callSite, invokeChecks, callOf, invoked, invokeOf, mailClock, calledVisit, callChecks, called, deliverCallOf, replyChecks, collected, deliverReplyOf, deliverBodyOf, dropChecks, lost, dropOf}
 use Rattle.rules.specs.Machine.{lookOf, bodyBank, placesOf, seenOf, decideOf, stepOf}
 use Rattle.rules.specs.StoredLaws.{Sized}
 use Rattle.rules.specs.StoredObjects.{seen-object}
@@ -128,11 +128,13 @@ pub record CallDelivered (t t′ : Tables) (m : ℕ) (x : Message) (site slot : 
   pub alive : calledVisit c (visitAt t site slot) .dead ≡ false
   pub unheld : isHeldByOther slot (objectAt t (c .object)) ≡ false
   pub room : calledVisit c (visitAt t site slot) .received < countMost
-  -- the value before the operation
-  pub value : v ≡ objectAt t (c .object) .value
+  pub value : v ≡ 0
   pub clock : ClockMoves t t′ site (deliveryClock (siteAt t site) x)
   pub visit : OnlyVisit t t′ site slot (countReceived (calledVisit c (visitAt t site slot)))
-  pub message : OnlyMessage t t′ m noMessage
+  -- its slot then has a reply with the value before the operation, from this site to the one that called
+  pub reply :
+      OnlyMessage t t′ m
+      (plainMessage (Body.Reply (objectAt t (c .object) .value)) site (x .source) (x .handle) (deliveryClock (siteAt t site) x))
   pub object : OnlyObject t t′ (c .object) (operated c (taken slot (objectAt t (c .object))))
   pub passages : t′ .passages ≡ t .passages
 
@@ -147,7 +149,7 @@ call-delivered-effects t m v c z e a =
     let fits : MessageFits (messageAt t m) = message-fits t m (accepted-in-range t (Step.Deliver m) (ap isAccepted a)) below in
     let call : CallFits c = call-range-says c (rw e at (fits .body)) in
     let d =
-    deliver-done t m v (Body.Call c) (callChecks m c) (λ seen. calledObject c seen .value) (λ seen. called c (mailClock seen) seen) z a e
+    deliver-done t m v (Body.Call c) (callChecks m c) (λ seen. 0) (λ seen. called c (mailClock seen) seen) z a e
     (λ seen. refl) in
     let s : objectSite (c .object) ≡ objectSite (c .object) % 8 = omega arith in
     let o : getD (bankAt t (objectSite (c .object) % 8)) (c .object % 4) pastObject ≡ objectAt t (c .object) = seen-object t (c .object) _ s in
@@ -159,12 +161,40 @@ call-delivered-effects t m v c z e a =
       alive = n;
       unheld = rw o at (d .fine .unheld);
       room = leb-false _ _ (d .fine .callsLeft);
-      value = rw o at (d .value);
+      value = d .value;
       clock = clock-moves d _ refl (d .fine .up) (d .fine .clock);
       visit = only-visit d;
-      message = only-message d;
+      reply = rw o at (only-message d);
       object = only-object d (c .object) _ s (rw o);
       passages = passages-stay d refl;
+    }
+
+-- a delivered reply: the message x of slot m, for this site, carries the value w
+
+pub record ReplyDelivered (t t′ : Tables) (m : ℕ) (x : Message) (site w v : ℕ) : Type 0 where
+  pub below : m < 32
+  pub value : v ≡ w
+  pub clock : ClockMoves t t′ site (deliveryClock (siteAt t site) x)
+  pub message : OnlyMessage t t′ m noMessage
+  pub passages : t′ .passages ≡ t .passages
+  pub visits : t′ .visits ≡ t .visits
+  pub objects : t′ .objects ≡ t .objects
+
+pub reply-delivered-effects :
+    (t : Tables) (m v w : ℕ) → Sized t → messageAt t m .body ≡ Body.Reply w
+    → stepOf t (Step.Deliver m) .answer ≡ Answer.Accepted v
+    → ReplyDelivered t (stepOf t (Step.Deliver m) .tables) m (messageAt t m) (messageAt t m .destination) w v
+unfolding deliverBodyOf deliverReplyOf
+reply-delivered-effects t m v w z e a =
+    let d = deliver-done t m v (Body.Reply w) (replyChecks m) (λ seen. w) (λ seen. collected (mailClock seen) seen) z a e (λ seen. refl) in
+    record {
+      below = deliver-below t m v a;
+      value = d .value;
+      clock = clock-moves d _ refl (d .fine .up) (d .fine .clock);
+      message = only-message d;
+      passages = passages-stay d refl;
+      visits = visits-stay d refl;
+      objects = objects-stay d refl;
     }
 
 -- ---- 12. drop

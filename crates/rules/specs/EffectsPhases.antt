@@ -39,7 +39,7 @@ pub record AskDelivered (t t′ : Tables) (m : ℕ) (x : Message) (site slot : �
   pub objects : t′ .objects ≡ t .objects
   -- away from home, which is where every ask goes: the slot holds the answer
   pub passages : site ≢ p .home → t′ .passages ≡ t .passages
-  pub reply :
+  pub answer :
       site ≢ p .home
       → OnlyMessage t t′ m
       (answerMessage
@@ -117,7 +117,7 @@ module _ (t : Tables) (m v : ℕ) (z : Sized t) (a : stepOf t (Step.Deliver m) .
         visit = only-visit d;
         objects = objects-stay d refl;
         passages = λ w. passages-stay d (rw (ne-eqb _ _ w));
-        reply = λ w. rw (ne-eqb _ _ w) at (only-message d);
+        answer = λ w. rw (ne-eqb _ _ w) at (only-message d);
         home-passage = λ w. rw (eq-eqb _ _ w) at (only-passage d);
         home-message = λ w. rw (eq-eqb _ _ w) at (only-message d);
       }

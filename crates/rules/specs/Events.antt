@@ -4,17 +4,17 @@ use mathlib.Core.Bool.{Bool, cond, not, _&&_}
 use mathlib.Core.List.{List, [], _∷_, _++_}
 use Rattle.rules.specs.Types.{Call, Body, Tables, Step, MailAt}
 use Rattle.rules.specs.Tables.{objectAt, messageAt}
-use Rattle.rules.specs.Answers.{isAccepted, answerValue}
+use Rattle.rules.specs.Answers.{isAccepted}
 use Rattle.rules.specs.Parts.{isHeldBy}
 use Rattle.rules.specs.Machine.{lookOf, placesOf, stepOf}
 use Rattle.rules.specs.Runs.{actsAtSite, stampOf}
 
 -- ---- an event
 
--- operated: whether it was written, the value that was answered, and the value that was to be written, 0 for a read
+-- operated: whether it was written, the value that was found, and the value that was to be written, 0 for a read
 pub data EventKind : Type 0 where
   Took : EventKind
-  Operated : (write : Bool) (answered written : ℕ) → EventKind
+  Operated : (write : Bool) (found written : ℕ) → EventKind
   Freed : EventKind
 
 -- the stamp is the site's clock after the step
@@ -47,18 +47,19 @@ abbrev pub tookOf : Tables → Step → ℕ → ℕ → List Event
 tookOf t step slot object =
     cond (isHolding t slot object) [] (eventIn t step EventKind.Took slot object ∷ [])
 
--- "then read or written. Value: the object's value before the operation."
+-- "then read or written"; found is the object's value before the operation, which the reply carries
 abbrev pub operatedOf : Tables → Step → ℕ → Call → Event
 operatedOf t step slot c =
-    eventIn t step (EventKind.Operated (c .write) (answerValue (stepOf t step .answer)) (c .value)) slot (c .object)
+    eventIn t step (EventKind.Operated (c .write) (objectAt t (c .object) .value) (c .value)) slot (c .object)
 
--- by what the message slot holds: only a call takes and operates
+-- by what the message slot holds: only a call takes and operates, and a reply is no operation
 abbrev pub bodyEvents : Tables → Step → ℕ → Body → List Event
 bodyEvents t step slot Body.Empty = []
 bodyEvents t step slot (Body.Call c) = tookOf t step slot (c .object) ++ operatedOf t step slot c ∷ []
 bodyEvents t step slot (Body.PhaseOne n asked) = []
 bodyEvents t step slot (Body.PhaseTwo n told) = []
 bodyEvents t step slot (Body.Answer n received q) = []
+bodyEvents t step slot (Body.Reply value) = []
 
 -- what the step delivers: only deliver and drop name a message, and drop acts at no site
 abbrev pub namedBody : MailAt → Body → Body

@@ -76,6 +76,7 @@ bodyBank (Body.Call c) s = objectSite (c .object) % 8
 bodyBank (Body.PhaseOne n a) s = s
 bodyBank (Body.PhaseTwo n d) s = s
 bodyBank (Body.Answer n received q) s = s
+bodyBank (Body.Reply value) s = s
 
 -- the site whose four objects are looked at: that of a delivered call's object, else the site itself
 abbrev pub bankPlace : SiteAt → Message → ℕ → ℕ

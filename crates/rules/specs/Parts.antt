@@ -358,6 +358,7 @@ isEmpty (Body.Call c) = false
 isEmpty (Body.PhaseOne n a) = false
 isEmpty (Body.PhaseTwo n d) = false
 isEmpty (Body.Answer n received q) = false
+isEmpty (Body.Reply value) = false
 
 -- a message that carries no counts
 abbrev pub plainMessage : Body → ℕ → ℕ → ℕ → ℕ → Message

@@ -86,6 +86,7 @@ bodyInRange (Body.Call c) = callInRange c
 bodyInRange (Body.PhaseOne n a) = leb n countMost && askedInRange a
 bodyInRange (Body.PhaseTwo n d) = leb n countMost && toldInRange d
 bodyInRange (Body.Answer n received q) = leb n countMost && leb received countMost && leb q timeMost
+bodyInRange (Body.Reply value) = leb value widthMost
 
 abbrev pub messageInRange : Message → Bool
 messageInRange m =

@@ -23,7 +23,7 @@ use Rattle.rules.specs.Checks.{badSite, badHandle, badTimes}
 use Rattle.rules.specs.Stations.{tickOf, sweepOf, sweptSlot, crashOf, crashedSlot, recoverOf}
 use Rattle.rules.specs.Passages.{beginOf, abortOf, retireOf}
 use Rattle.rules.specs.Rounds.{openedVisit, openOf, refreshOf, terminateOf, prepareOf, sentOut, askOf, closeOf, tellOf}
-use Rattle.rules.specs.Calls.{callSite, callOf, invokeOf, mailClock, mailSlot, emptyOf, calledVisit, calledObject, callDone, deliverCallOf, deliverPhaseOneOf, deliverPhaseTwoOf, deliverAnswerOf, deliverBodyOf, dropOf}
+use Rattle.rules.specs.Calls.{callSite, callOf, invokeOf, mailClock, mailSlot, emptyOf, calledVisit, calledObject, callDone, deliverCallOf, deliverPhaseOneOf, deliverPhaseTwoOf, deliverAnswerOf, deliverReplyOf, deliverBodyOf, dropOf}
 use Rattle.rules.specs.FineLaws.{CallFields, call-fields, invoke-count, call-count, open-count}
 use Rattle.rules.specs.Machine.{lookOf, placesOf, seenOf, remains, decideOf, stored, headOf, turnSeen, turnOf, turnsUpTo, turnCount, stepInRangeOf, stepOf, foundOf}
 use Rattle.rules.specs.StoredLaws.{Placed, turn-stored}
@@ -153,7 +153,8 @@ module _ (seen : Seen) (b : SeenFits seen) where
       λ i.
       set-keeps-at ObjectFits (seen .objects) (c .object % 4) i _ pastObject (b .objects i)
       (operated-fits c _ (call .value) (taken-fits (mailSlot seen) (calledObject c seen) (omega arith) (b .objects (c .object % 4)))) in
-      search (arith, ltb-false, no-message-fits)
+      let reply : bodyInRange (Body.Reply (calledObject c seen .value)) ≡ true = le-leb _ _ (b .objects (c .object % 4) .value) in
+      search (arith, ltb-false, no-counts-fit)
 
   fits-after-phase-one :
       (m n : ℕ) (asked : Asked) → n ≤ countMost → askedInRange asked ≡ true
@@ -177,7 +178,7 @@ module _ (seen : Seen) (b : SeenFits seen) where
       settled-fits _ _ _ (λ f. search (arith, ltb-false, with-answer-fits, no-message-fits))
 
   fits-after-deliver : (body : Body) (m : ℕ) → bodyInRange body ≡ true → SeenFits (deliverBodyOf body m seen .left)
-  unfolding deliverBodyOf emptyOf
+  unfolding deliverBodyOf emptyOf deliverReplyOf
   fits-after-deliver Body.Empty m e = settled-fits _ _ _ (λ f. b)
   fits-after-deliver (Body.Call c) m e = fits-after-call m c (call-range-says c e)
   fits-after-deliver (Body.PhaseOne n asked) m e = both e λ h a. fits-after-phase-one m n asked (leb-true _ _ h) a
@@ -186,6 +187,7 @@ module _ (seen : Seen) (b : SeenFits seen) where
       both e λ e k.
       both {a = leb n countMost} e λ _ r.
       fits-after-answer m n received q (leb-true _ _ r) (leb-true _ _ k)
+  fits-after-deliver (Body.Reply value) m e = settled-fits _ _ _ (λ f. search (arith, ltb-false, no-message-fits))
 
   fits-after-decided : (step : Step) (found : Found) → SeenFits (decideOf step found seen .left)
   unfolding decideOf tickOf sweepOf crashOf recoverOf terminateOf prepareOf

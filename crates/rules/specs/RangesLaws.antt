@@ -159,6 +159,7 @@ body-bank-below (Body.Call c) s h = omega arith
 body-bank-below (Body.PhaseOne n a) s h = h
 body-bank-below (Body.PhaseTwo n d) s h = h
 body-bank-below (Body.Answer n r q) s h = h
+body-bank-below (Body.Reply value) s h = h
 
 bank-place-below : (site : SiteAt) (m : Message) (s : ℕ) → s < 8 → bankPlace site m s < 8
 bank-place-below (SiteAt.Given a) m s h = h

@@ -14,7 +14,7 @@ use Rattle.rules.specs.Parts.{isEmpty, sentTo, isClosed, largestQuiesce,
 use Rattle.rules.specs.Stations.{tickOf, sweepOf, sweptSlot, crashOf, crashedSlot, recoverOf}
 use Rattle.rules.specs.Passages.{beginOf, abortOf, retireOf}
 use Rattle.rules.specs.Rounds.{openOf, refreshOf, terminateOf, prepareOf, askOf, closeOf, tellOf}
-use Rattle.rules.specs.Calls.{invokeOf, emptyOf, deliverCallOf, deliverPhaseOneOf, deliverPhaseTwoOf, deliverAnswerOf, deliverBodyOf, dropOf}
+use Rattle.rules.specs.Calls.{invokeOf, emptyOf, deliverCallOf, deliverPhaseOneOf, deliverPhaseTwoOf, deliverAnswerOf, deliverReplyOf, deliverBodyOf, dropOf}
 use Rattle.rules.specs.Machine.{lowestEmpty, placesOf, remains, decideOf, stored, headOf, turnOf, turnsUpTo, stepInRangeOf, stepOf}
 use Rattle.rules.specs.Record.{stepOfFields, stepOfRecord, recordOfStep, recordInRangeOf, stepRecordOf}
 use Rattle.rules.specs.Runs.{recordAnswersOf, runRecordsOf}
@@ -109,6 +109,15 @@ sent s p counts = record { reads = λ t. visitAt t s p .sent; says = counts }
 abbrev pub mail : ℕ → ℕ → Fact
 mail m = one (λ t. oneIf (not (isEmpty (messageAt t m .body))))
 
+-- from where to where the message in a slot goes, for which handle, and its stamp
+abbrev pub post : ℕ → ℕ → ℕ → ℕ → ℕ → Fact
+post m source destination handle stamp =
+    record {
+      reads =
+          λ t. messageAt t m .source ∷ messageAt t m .destination ∷ messageAt t m .handle ∷ messageAt t m .stamp ∷ [];
+      says = source ∷ destination ∷ handle ∷ stamp ∷ [];
+    }
+
 -- ---- rows
 
 -- a run has the tables, the records, a number and a value for each, and facts; a sheet its bytes, and those of its listing
@@ -176,7 +185,7 @@ walked-is-run t (r ∷ rs) facts =
     (walked-is-run (stepRecordOf t r .tables) rs facts)
 
 unfoldable pub found : Row → List ℕ
-unfolding start everyUpTo someUpTo sumUpTo mostUpTo firstUpTo countsInRange roundInRange inRange firstOf sentTo isClosed largestQuiesce answerCount tickOf sweepOf sweptSlot crashOf crashedSlot recoverOf beginOf abortOf retireOf openOf refreshOf terminateOf prepareOf askOf closeOf tellOf invokeOf emptyOf deliverCallOf deliverPhaseOneOf deliverPhaseTwoOf deliverAnswerOf deliverBodyOf dropOf lowestEmpty placesOf remains decideOf stored headOf turnOf turnsUpTo stepInRangeOf stepOf stepOfFields stepOfRecord recordOfStep recordInRangeOf stepRecordOf walkedOf sheetAnswer sheetRecords spelt lineOf printedUpTo listingOf
+unfolding start everyUpTo someUpTo sumUpTo mostUpTo firstUpTo countsInRange roundInRange inRange firstOf sentTo isClosed largestQuiesce answerCount tickOf sweepOf sweptSlot crashOf crashedSlot recoverOf beginOf abortOf retireOf openOf refreshOf terminateOf prepareOf askOf closeOf tellOf invokeOf emptyOf deliverCallOf deliverPhaseOneOf deliverPhaseTwoOf deliverAnswerOf deliverReplyOf deliverBodyOf dropOf lowestEmpty placesOf remains decideOf stored headOf turnOf turnsUpTo stepInRangeOf stepOf stepOfFields stepOfRecord recordOfStep recordInRangeOf stepRecordOf walkedOf sheetAnswer sheetRecords spelt lineOf printedUpTo listingOf
 found (runOn t records says facts) = walkedOf t records facts
 found (sheet bytes listing) = listingOf bytes
 

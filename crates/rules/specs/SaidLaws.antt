@@ -192,6 +192,7 @@ module _ (t : Tables) where
   delivery-says m (Body.PhaseOne n a) e = no-call (Step.Deliver m) (rw e) (rw e) (rw e)
   delivery-says m (Body.PhaseTwo n d) e = no-call (Step.Deliver m) (rw e) (rw e) (rw e)
   delivery-says m (Body.Answer n received q) e = no-call (Step.Deliver m) (rw e) (rw e) (rw e)
+  delivery-says m (Body.Reply value) e = no-call (Step.Deliver m) (rw e) (rw e) (rw e)
 
   -- by the step
   says : (step : Step) → Says t step

@@ -17,7 +17,7 @@ use Rattle.rules.specs.Parts.{isActive, isRunning, isAborted, asksLife, 
 use Rattle.rules.specs.Stations.{tickChecks, tickOf, sweepChecks, sweepOf, crashChecks, crashOf, recoverChecks, recoverOf}
 use Rattle.rules.specs.Passages.{beginChecks, beginOf, abortChecks, abortOf, retireChecks, retireOf}
 use Rattle.rules.specs.Rounds.{openChecks, openOf, refreshOf, terminateOf, prepareOf, askChecks, askOf, closeChecks, closeOf, tellChecks, tellOf}
-use Rattle.rules.specs.Calls.{mailClock, invokeChecks, invokeOf, emptyOf, callChecks, deliverCallOf, roundChecks, deliverPhaseOneOf, deliverPhaseTwoOf, answerChecks, deliverAnswerOf, deliverBodyOf, dropOf}
+use Rattle.rules.specs.Calls.{mailClock, invokeChecks, invokeOf, emptyOf, callChecks, deliverCallOf, replyChecks, deliverReplyOf, roundChecks, deliverPhaseOneOf, deliverPhaseTwoOf, answerChecks, deliverAnswerOf, deliverBodyOf, dropOf}
 use Rattle.rules.specs.Machine.{decideOf}
 
 -- ---- number 20 and a list of checks
@@ -137,6 +137,7 @@ deliveryChecks (Body.Call c) m seen = callChecks m c seen
 deliveryChecks (Body.PhaseOne n a) m seen = roundChecks m (asksLife a) (leb n (seen .visit .round)) (mailClock seen) seen
 deliveryChecks (Body.PhaseTwo n d) m seen = roundChecks m (tellsLife d) (not (eqb n (seen .visit .round))) (mailClock seen) seen
 deliveryChecks (Body.Answer n r q) m seen = answerChecks m n seen
+deliveryChecks (Body.Reply value) m seen = replyChecks m seen
 
 -- by the step
 abbrev pub checksOf : Step → Found → Seen → List Check
@@ -185,12 +186,13 @@ module _ (cs : List Check) (d : Decision) (seen : Seen) (s : Checked cs d seen) 
 
 -- by what the message slot holds
 delivered-checked : (b : Body) (m : ℕ) (seen : Seen) → Checked (deliveryChecks b m seen) (deliverBodyOf b m seen) seen
-unfolding deliverBodyOf emptyOf deliverCallOf deliverPhaseOneOf deliverPhaseTwoOf deliverAnswerOf
+unfolding deliverBodyOf emptyOf deliverCallOf deliverPhaseOneOf deliverPhaseTwoOf deliverAnswerOf deliverReplyOf
 delivered-checked Body.Empty m seen = settles _ _ _ seen refl refl
 delivered-checked (Body.Call c) m seen = settles _ _ _ seen refl refl
 delivered-checked (Body.PhaseOne n a) m seen = settles _ _ _ seen refl refl
 delivered-checked (Body.PhaseTwo n d) m seen = settles _ _ _ seen refl refl
 delivered-checked (Body.Answer n r q) m seen = settles _ _ _ seen refl refl
+delivered-checked (Body.Reply value) m seen = settles _ _ _ seen refl refl
 
 -- the first check of every delivery asks for the message slot
 first-asks : (b : Body) (m : ℕ) (seen : Seen) → Clear (deliveryChecks b m seen) → badMessage m ≡ false
@@ -199,6 +201,7 @@ first-asks (Body.Call c) m seen f = f .0
 first-asks (Body.PhaseOne n a) m seen f = f .0
 first-asks (Body.PhaseTwo n d) m seen f = f .0
 first-asks (Body.Answer n r q) m seen f = f .0
+first-asks (Body.Reply value) m seen f = f .0
 
 -- an accepted delivery names a message slot that there is
 pub delivered-named : (b : Body) (m : ℕ) (seen : Seen) → isAccepted (deliverBodyOf b m seen .answer) ≡ true → badMessage m ≡ false

@@ -15,7 +15,7 @@ use Rattle.rules.specs.FineLaws.{invoke-empty}
 use Rattle.rules.specs.Stations.{tickOf, sweepOf, crashOf, recoverOf}
 use Rattle.rules.specs.Passages.{beginOf, abortOf, retireOf}
 use Rattle.rules.specs.Rounds.{openOf, refreshOf, terminateOf, prepareOf, askOf, closeOf, tellOf}
-use Rattle.rules.specs.Calls.{atHome, mailClock, invokeOf, emptyOf, deliverCallOf, deliverPhaseOneOf, deliverPhaseTwoOf, deliverAnswerOf, deliverBodyOf, dropOf}
+use Rattle.rules.specs.Calls.{atHome, mailClock, invokeOf, emptyOf, deliverCallOf, deliverPhaseOneOf, deliverPhaseTwoOf, deliverAnswerOf, deliverReplyOf, deliverBodyOf, dropOf}
 use Rattle.rules.specs.Machine.{lookOf, decideOf}
 use Rattle.rules.specs.Record.{rowOf, isNamed, flatOf, isStep}
 use Rattle.rules.specs.Runs.{actsAtSite}
@@ -64,7 +64,7 @@ pub data Marks : Step → Type 0 where
   Delivers : (m : ℕ) → Marks (Step.Deliver m)
   Stay : (step : Step) → Leaves (λ s. s .visit .there) step → Leaves (λ s. s .visit .prepared) step → Marks step
 
--- of what a delivered message brings: a call, a round's question, its word; an answer leaves objects and visits, and an empty slot everything
+-- of what a delivered message brings: a call, a round's question, its word; an answer and a reply leave objects and visits, and an empty slot everything
 pub data Mail : Body → Type 0 where
   Calls : (c : Call) → Mail (Body.Call c)
   Asks : (n : ℕ) (asked : Asked) → Mail (Body.PhaseOne n asked)
@@ -101,13 +101,22 @@ pub data Handle : Step → Type 0 where
       → Handle step
   Nameless : (step : Step) → isNamed (rowOf (flatOf step .code)) 8 ≡ false → Handle step
 
+abbrev pub isReply : Body → Bool
+isReply Body.Empty = false
+isReply (Body.Call c) = false
+isReply (Body.PhaseOne n asked) = false
+isReply (Body.PhaseTwo n told) = false
+isReply (Body.Answer n received q) = false
+isReply (Body.Reply value) = true
+
 -- of the message slot that a step looks at: a delivery and a drop are for the message there,
--- an invoke, an ask and a tell find it empty, any other step leaves it
+-- an invoke, an ask and a tell find it empty and leave no reply, any other step leaves it
 pub data Post : Step → Type 0 where
   Delivers : (m : ℕ) → Post (Step.Deliver m)
   Drops : (m : ℕ) → Post (Step.Drop m)
   Sends :
       (step : Step) → ((found : Found) (seen : Seen) → isAccepted (decideOf step found seen .answer) ≡ true → isEmpty (seen .message .body) ≡ true)
+      → ((found : Found) (seen : Seen) → isAccepted (decideOf step found seen .answer) ≡ true → isReply (decideOf step found seen .left .message .body) ≡ false)
       → Post step
   Stays : (step : Step) → Leaves (λ s. s .message) step → Post step
 
@@ -118,6 +127,7 @@ isCalled (Body.Call c) = true
 isCalled (Body.PhaseOne n asked) = false
 isCalled (Body.PhaseTwo n told) = false
 isCalled (Body.Answer n received q) = false
+isCalled (Body.Reply value) = false
 
 -- a call in what a decision leaves stood in what was seen
 abbrev pub CallStood : Seen → Seen → Type 0
@@ -137,15 +147,22 @@ pub record Deed (step : Step) : Type 0 where
   pub goes : Goes step
   pub handle : Handle step
 
+-- a message that goes out and is no reply
+unreplied :
+    (cs : List Check) (v : ℕ) (seen left : Seen) → isReply (left .message .body) ≡ false → isAccepted (firstOf cs v) ≡ true
+    → isReply (settleOf (record { answer = firstOf cs v; left = left }) seen .left .message .body) ≡ false
+unreplied cs v seen left e = settled-accepted (λ s. isReply (s .message .body) ≡ false) cs v seen left (λ f. e)
+
 -- ---- deliveries, by what the slot holds
 
 pub mailDeed : (body : Body) → Mail body
-unfolding deliverBodyOf emptyOf deliverAnswerOf
+unfolding deliverBodyOf emptyOf deliverAnswerOf deliverReplyOf
 mailDeed Body.Empty = Mail.Quiet _ (λ m seen. same (λ s. s .objects) _ _ seen _ refl) (λ m seen. same (λ s. s .visit) _ _ seen _ refl)
 mailDeed (Body.Call c) = Mail.Calls c
 mailDeed (Body.PhaseOne n asked) = Mail.Asks n asked
 mailDeed (Body.PhaseTwo n told) = Mail.Tells n told
 mailDeed (Body.Answer n r q) = Mail.Quiet _ (λ m seen. same (λ s. s .objects) _ _ seen _ refl) (λ m seen. same (λ s. s .visit) _ _ seen _ refl)
+mailDeed (Body.Reply value) = Mail.Quiet _ (λ m seen. same (λ s. s .objects) _ _ seen _ refl) (λ m seen. same (λ s. s .visit) _ _ seen _ refl)
 
 pub empty-says : (b : Body) → isEmpty b ≡ true → b ≡ Body.Empty
 empty-says Body.Empty e = refl
@@ -153,24 +170,26 @@ empty-says (Body.Call c) e = absurd (false≢true e)
 empty-says (Body.PhaseOne n asked) e = absurd (false≢true e)
 empty-says (Body.PhaseTwo n told) e = absurd (false≢true e)
 empty-says (Body.Answer n r q) e = absurd (false≢true e)
+empty-says (Body.Reply value) e = absurd (false≢true e)
 
 -- an empty slot is refused; any other message moves the clock past its stamp
 pub delivered-clock :
     (body : Body) (m : ℕ) (seen : Seen) → seen .message .body ≡ body → isAccepted (deliverBodyOf body m seen .answer) ≡ true
     → deliverBodyOf body m seen .left .site .clock ≡ mailClock seen
-unfolding deliverBodyOf emptyOf deliverCallOf deliverPhaseOneOf deliverPhaseTwoOf deliverAnswerOf
+unfolding deliverBodyOf emptyOf deliverCallOf deliverPhaseOneOf deliverPhaseTwoOf deliverAnswerOf deliverReplyOf
 delivered-clock Body.Empty m seen b e = settled-accepted (λ s. s .site .clock ≡ mailClock seen) _ _ seen _ (λ f. absurd (true≢false (rw b at (f .found)))) e
 delivered-clock (Body.Call c) m seen b e = settled-accepted (λ s. s .site .clock ≡ mailClock seen) _ _ seen _ (λ f. refl) e
 delivered-clock (Body.PhaseOne n a) m seen b e = settled-accepted (λ s. s .site .clock ≡ mailClock seen) _ _ seen _ (λ f. refl) e
 delivered-clock (Body.PhaseTwo n d) m seen b e = settled-accepted (λ s. s .site .clock ≡ mailClock seen) _ _ seen _ (λ f. refl) e
 delivered-clock (Body.Answer n r q) m seen b e = settled-accepted (λ s. s .site .clock ≡ mailClock seen) _ _ seen _ (λ f. refl) e
+delivered-clock (Body.Reply value) m seen b e = settled-accepted (λ s. s .site .clock ≡ mailClock seen) _ _ seen _ (λ f. refl) e
 
 -- of two passages with one generation, either has it: at home a message may give the passage another status, and no other generation
 pub home-generation : (b : Bool) (x y : Passage) (g : ℕ) → x .generation ≡ g → y .generation ≡ g → cond b x y .generation ≡ g
 home-generation b x y g = cond-keeps (λ (p : Passage). p .generation ≡ g) b x y
 
 delivered-generation : (body : Body) (m : ℕ) (seen : Seen) → deliverBodyOf body m seen .left .passage .generation ≡ seen .passage .generation
-unfolding deliverBodyOf emptyOf deliverCallOf deliverPhaseOneOf deliverPhaseTwoOf deliverAnswerOf
+unfolding deliverBodyOf emptyOf deliverCallOf deliverPhaseOneOf deliverPhaseTwoOf deliverAnswerOf deliverReplyOf
 delivered-generation Body.Empty m seen = same (λ s. s .passage .generation) _ _ seen _ refl
 delivered-generation (Body.Call c) m seen = same (λ s. s .passage .generation) _ _ seen _ refl
 delivered-generation (Body.PhaseOne n a) m seen =
@@ -178,6 +197,7 @@ delivered-generation (Body.PhaseOne n a) m seen =
 delivered-generation (Body.PhaseTwo n d) m seen =
     same (λ s. s .passage .generation) _ _ seen _ (home-generation (atHome seen) _ (seen .passage) _ refl refl)
 delivered-generation (Body.Answer n r q) m seen = same (λ s. s .passage .generation) _ _ seen _ refl
+delivered-generation (Body.Reply value) m seen = same (λ s. s .passage .generation) _ _ seen _ refl
 
 -- what a decision leaves where it leaves the message
 stood : (cs : List Check) (v : ℕ) (seen left : Seen) → left .message ≡ seen .message → CallStood seen (settleOf (record { answer = firstOf cs v; left = left }) seen .left)
@@ -190,13 +210,14 @@ uncalled :
 uncalled cs v seen left e = settled (CallStood seen) cs v seen left (λ f c. absurd (true≢false (sym c ∙ e))) (λ c. refl)
 
 delivered-stood : (body : Body) (m : ℕ) (seen : Seen) → CallStood seen (deliverBodyOf body m seen .left)
-unfolding deliverBodyOf emptyOf deliverCallOf deliverPhaseOneOf deliverPhaseTwoOf deliverAnswerOf
+unfolding deliverBodyOf emptyOf deliverCallOf deliverPhaseOneOf deliverPhaseTwoOf deliverAnswerOf deliverReplyOf
 delivered-stood Body.Empty m seen = stood _ _ seen _ refl
 delivered-stood (Body.Call c) m seen = uncalled _ _ seen _ refl
 delivered-stood (Body.PhaseOne n a) m seen =
     uncalled _ _ seen _ (cond-keeps (λ (x : Message). isCalled (x .body) ≡ false) (atHome seen) noMessage _ refl refl)
 delivered-stood (Body.PhaseTwo n d) m seen = uncalled _ _ seen _ refl
 delivered-stood (Body.Answer n r q) m seen = uncalled _ _ seen _ refl
+delivered-stood (Body.Reply value) m seen = uncalled _ _ seen _ refl
 
 pub deedOf : (step : Step) → Deed step
 unfolding decideOf tickOf sweepOf crashOf recoverOf beginOf abortOf retireOf refreshOf terminateOf prepareOf openOf askOf closeOf tellOf invokeOf dropOf
@@ -228,7 +249,7 @@ deedOf (Step.Invoke h site write object value) =
       generation = Generation.Stays _ refl (λ found seen. same (λ s. s .passage .generation) _ _ seen _ refl);
       marks = Marks.Stay _ (λ found seen. same (λ s. s .visit .there) _ _ seen _ refl) (λ found seen. same (λ s. s .visit .prepared) _ _ seen _ refl);
       clock = Clock.Moves _ refl refl refl (λ found seen e. settled-accepted (λ s. s .site .clock ≡ seen .site .clock + 1) _ _ seen _ (λ f. refl) e);
-      post = Post.Sends _ (λ found seen e. invoke-empty h site write object value seen (accepted-fine _ _ e));
+      post = Post.Sends _ (λ found seen e. invoke-empty h site write object value seen (accepted-fine _ _ e)) (λ found seen e. unreplied _ _ seen _ refl e);
       calling = Calling.Invokes h site write object value;
       goes = Goes.Nowhere _ refl;
       handle = Handle.Named _ refl (λ found seen e. accepted-fine _ _ e .found);
@@ -272,7 +293,7 @@ deedOf (Step.Ask h site) =
       generation = Generation.Stays _ refl (λ found seen. same (λ s. s .passage .generation) _ _ seen _ refl);
       marks = Marks.Stay _ (λ found seen. same (λ s. s .visit .there) _ _ seen _ refl) (λ found seen. same (λ s. s .visit .prepared) _ _ seen _ refl);
       clock = Clock.Moves _ refl refl refl (λ found seen e. settled-accepted (λ s. s .site .clock ≡ seen .site .clock + 1) _ _ seen _ (λ f. refl) e);
-      post = Post.Sends _ (λ found seen e. not-false _ (accepted-fine _ _ e .room));
+      post = Post.Sends _ (λ found seen e. not-false _ (accepted-fine _ _ e .room)) (λ found seen e. unreplied _ _ seen _ refl e);
       calling = Calling.Stands _ (λ found seen. uncalled _ _ seen _ refl);
       goes = Goes.Nowhere _ refl;
       handle = Handle.Named _ refl (λ found seen e. accepted-fine _ _ e .found);
@@ -294,7 +315,7 @@ deedOf (Step.Tell h site) =
       generation = Generation.Stays _ refl (λ found seen. same (λ s. s .passage .generation) _ _ seen _ refl);
       marks = Marks.Stay _ (λ found seen. same (λ s. s .visit .there) _ _ seen _ refl) (λ found seen. same (λ s. s .visit .prepared) _ _ seen _ refl);
       clock = Clock.Moves _ refl refl refl (λ found seen e. settled-accepted (λ s. s .site .clock ≡ seen .site .clock + 1) _ _ seen _ (λ f. refl) e);
-      post = Post.Sends _ (λ found seen e. not-false _ (accepted-fine _ _ e .room));
+      post = Post.Sends _ (λ found seen e. not-false _ (accepted-fine _ _ e .room)) (λ found seen e. unreplied _ _ seen _ refl e);
       calling = Calling.Stands _ (λ found seen. uncalled _ _ seen _ refl);
       goes = Goes.Nowhere _ refl;
       handle = Handle.Named _ refl (λ found seen e. accepted-fine _ _ e .found);

@@ -119,6 +119,9 @@ pub enum Body {
         received: u16,
         quiesce: u32,
     },
+    Reply {
+        value: u32,
+    },
 }
 
 pub struct Message {

@@ -1,5 +1,5 @@
 -- The second table of cases, commits: what a crew writes at several stations stands together, and another passage reads it.
--- The answers were worked out by hand from document 01; a clock beside a line is that of the acting station after it. Assumes nothing.
+-- The answers were worked out by hand from the two documents; a clock beside a line is that of the acting station after it. Assumes nothing.
 use mathlib.Core.Path.{_≡_, refl}
 use mathlib.Core.List.{List, [], _∷_, _++_, map}
 use Rattle.trials.specs.Types.{Holder, Phase, Status, Step}
@@ -13,26 +13,29 @@ crewWrites =
     ∷ Step.Invoke 5 3 1 9 23456 gives 1  -- 3
     ∷ Step.Invoke 5 3 1 13 4321 gives 2  -- 4
     ∷ Step.Deliver 2 gives 0  -- 5
+    ∷ Step.Deliver 2 gives 0  -- 6
     ∷ Step.Deliver 1 gives 0  -- clock 2: 4
+    ∷ Step.Deliver 1 gives 0  -- clock 3: 7
     ∷ Step.Deliver 0 gives 0  -- clock 7: 3
+    ∷ Step.Deliver 0 gives 0  -- clock 3: 8
     ∷ []
 
 -- the round waits for both stations, each called once: 12 until the second has answered
 abbrev pub crewCommits : List Line
 crewCommits =
     Step.Close 5 refusedBy 5
-    ∷ Step.Prepare 5 gives 1  -- clock 3: 6
+    ∷ Step.Prepare 5 gives 1  -- clock 3: 9
     ∷ Step.Close 5 refusedBy 12
-    ∷ Step.Ask 5 2 gives 0  -- 7
-    ∷ Step.Ask 5 7 gives 1  -- 8
-    ∷ Step.Deliver 0 gives 0  -- clock 2: 8
-    ∷ Step.Deliver 0 gives 0  -- clock 3: 9
+    ∷ Step.Ask 5 2 gives 0  -- 10
+    ∷ Step.Ask 5 7 gives 1  -- 11
+    ∷ Step.Deliver 0 gives 0  -- clock 2: 11
+    ∷ Step.Deliver 0 gives 0  -- clock 3: 12
     ∷ Step.Close 5 refusedBy 12
-    ∷ Step.Deliver 1 gives 0  -- clock 7: 9
-    ∷ Step.Deliver 1 gives 0  -- clock 3: 10
-    ∷ Step.Close 5 gives 3  -- 11
-    ∷ Step.Tell 5 7 gives 0  -- 12
-    ∷ Step.Tell 5 2 gives 1  -- 13
+    ∷ Step.Deliver 1 gives 0  -- clock 7: 12
+    ∷ Step.Deliver 1 gives 0  -- clock 3: 13
+    ∷ Step.Close 5 gives 3  -- 14
+    ∷ Step.Tell 5 7 gives 0  -- 15
+    ∷ Step.Tell 5 2 gives 1  -- 16
     ∷ []
 
 -- home 6, slot 9: a read is refused by 10 until station 7 has its word, then it reads what was written
@@ -41,11 +44,13 @@ checkReads =
     Step.Begin 6 9 500 600 gives 9  -- clock 6: 1
     ∷ Step.Invoke 9 6 0 29 0 gives 2  -- 2
     ∷ Step.Deliver 2 refusedBy 10
-    ∷ Step.Deliver 0 gives 0  -- clock 7: 13
-    ∷ Step.Deliver 2 gives 1000000  -- 14
-    ∷ Step.Deliver 1 gives 0  -- clock 2: 14
-    ∷ Step.Invoke 9 6 0 9 0 gives 0  -- clock 6: 3
-    ∷ Step.Deliver 0 gives 23456  -- clock 2: 15
+    ∷ Step.Deliver 0 gives 0  -- clock 7: 16
+    ∷ Step.Deliver 2 gives 0  -- 17
+    ∷ Step.Deliver 2 gives 1000000  -- clock 6: 18
+    ∷ Step.Deliver 1 gives 0  -- clock 2: 17
+    ∷ Step.Invoke 9 6 0 9 0 gives 0  -- clock 6: 19
+    ∷ Step.Deliver 0 gives 0  -- clock 2: 20
+    ∷ Step.Deliver 0 gives 23456  -- clock 6: 21
     ∷ []
 
 -- the old handle is refused by 3, while the slot is free and when it is used again; 21 is slot 5 in generation 1
@@ -53,7 +58,7 @@ abbrev pub slotUsedAgain : List Line
 slotUsedAgain =
     Step.Retire 5 gives 0
     ∷ Step.Abort 5 refusedBy 3
-    ∷ Step.Begin 3 5 1000 1020 gives 21  -- clock 3: 14
+    ∷ Step.Begin 3 5 1000 1020 gives 21  -- clock 3: 17
     ∷ Step.Invoke 5 3 0 13 0 refusedBy 3
     ∷ Step.Refresh 5 2000 2010 refusedBy 3
     ∷ Step.Terminate 5 refusedBy 3
@@ -63,8 +68,9 @@ slotUsedAgain =
     ∷ Step.Tell 5 2 refusedBy 3
     ∷ Step.Abort 5 refusedBy 3
     ∷ Step.Retire 5 refusedBy 3
-    ∷ Step.Invoke 21 3 0 13 0 gives 0  -- 15
-    ∷ Step.Deliver 0 gives 4321  -- 16
+    ∷ Step.Invoke 21 3 0 13 0 gives 0  -- 18
+    ∷ Step.Deliver 0 gives 0  -- 19
+    ∷ Step.Deliver 0 gives 4321  -- 20
     ∷ []
 
 -- home 4, slot 15: a refresh of stations 4 and 5 is closed and told, and both are used after the old Q, 20, and the old R, 40
@@ -73,58 +79,62 @@ firstRefresh =
     Step.Begin 4 15 20 40 gives 15  -- clock 4: 1
     ∷ Step.Invoke 15 4 1 22 2500 gives 0  -- 2
     ∷ Step.Deliver 0 gives 0  -- clock 5: 3
-    ∷ Step.Refresh 15 60 90 gives 1  -- clock 4: 3
-    ∷ Step.Ask 15 5 gives 0  -- 4
-    ∷ Step.Deliver 0 gives 0  -- clock 5: 5
-    ∷ Step.Deliver 0 gives 0  -- clock 4: 6
-    ∷ Step.Close 15 gives 2  -- 7
-    ∷ Step.Tell 15 5 gives 0  -- 8
-    ∷ Step.Tick 5 40 gives 45
-    ∷ Step.Tick 4 40 gives 48
+    ∷ Step.Deliver 0 gives 0  -- clock 4: 4
+    ∷ Step.Refresh 15 60 90 gives 1  -- 5
+    ∷ Step.Ask 15 5 gives 0  -- 6
+    ∷ Step.Deliver 0 gives 0  -- clock 5: 7
+    ∷ Step.Deliver 0 gives 0  -- clock 4: 8
+    ∷ Step.Close 15 gives 2  -- 9
+    ∷ Step.Tell 15 5 gives 0  -- 10
+    ∷ Step.Tick 5 40 gives 47
+    ∷ Step.Tick 4 40 gives 50
     -- station 5 has not been told yet
     ∷ Step.Invoke 15 5 0 30 0 refusedBy 8
-    ∷ Step.Deliver 0 gives 0  -- clock 5: 46
+    ∷ Step.Deliver 0 gives 0  -- clock 5: 48
     -- a call from a station that is not home, to station 7
-    ∷ Step.Invoke 15 5 0 30 0 gives 0  -- 47
-    ∷ Step.Deliver 0 gives 0  -- clock 7: 48
-    ∷ Step.Sweep 5 gives 0  -- clock 5: 48
+    ∷ Step.Invoke 15 5 0 30 0 gives 0  -- 49
+    ∷ Step.Deliver 0 gives 0  -- clock 7: 50
+    ∷ Step.Deliver 0 gives 0  -- clock 5: 51
+    ∷ Step.Sweep 5 gives 0  -- 52
     ∷ []
 
 -- round 2, over three stations; the word to station 7 is dropped, so its old Q, 60, stays
 abbrev pub secondRefresh : List Line
 secondRefresh =
-    Step.Refresh 15 500 600 gives 2  -- clock 4: 49
-    ∷ Step.Ask 15 7 gives 0  -- 50
-    ∷ Step.Ask 15 5 gives 1  -- 51
-    ∷ Step.Deliver 0 gives 0  -- clock 7: 51
-    ∷ Step.Deliver 1 gives 0  -- clock 5: 52
-    ∷ Step.Deliver 0 gives 0  -- clock 4: 52
-    ∷ Step.Deliver 1 gives 0  -- 53
-    ∷ Step.Close 15 gives 3  -- 54
-    ∷ Step.Tell 15 7 gives 0  -- 55
-    ∷ Step.Tell 15 5 gives 1  -- 56
+    Step.Refresh 15 500 600 gives 2  -- clock 4: 51
+    ∷ Step.Ask 15 7 gives 0  -- 52
+    ∷ Step.Ask 15 5 gives 1  -- 53
+    ∷ Step.Deliver 0 gives 0  -- clock 7: 53
+    ∷ Step.Deliver 1 gives 0  -- clock 5: 54
+    ∷ Step.Deliver 0 gives 0  -- clock 4: 54
+    ∷ Step.Deliver 1 gives 0  -- 55
+    ∷ Step.Close 15 gives 3  -- 56
+    ∷ Step.Tell 15 7 gives 0  -- 57
+    ∷ Step.Tell 15 5 gives 1  -- 58
     ∷ Step.Drop 0 gives 0
-    ∷ Step.Deliver 1 gives 0  -- clock 5: 57
-    ∷ Step.Tick 7 40 gives 91
+    ∷ Step.Deliver 1 gives 0  -- clock 5: 59
+    ∷ Step.Tick 7 40 gives 93
     ∷ Step.Invoke 15 7 0 30 0 refusedBy 8
-    ∷ Step.Invoke 15 5 1 22 1234 gives 0  -- clock 5: 58
-    ∷ Step.Deliver 0 gives 2500  -- 59
+    ∷ Step.Invoke 15 5 1 22 1234 gives 0  -- clock 5: 60
+    ∷ Step.Deliver 0 gives 0  -- 61
+    ∷ Step.Deliver 0 gives 2500  -- 62
     ∷ []
 
 -- round 3: two calls to station 5, one from home and one from itself, and one to station 7, from station 5
 abbrev pub refreshedCommit : List Line
 refreshedCommit =
-    Step.Prepare 15 gives 3  -- clock 4: 57
-    ∷ Step.Ask 15 5 gives 0  -- 58
-    ∷ Step.Ask 15 7 gives 1  -- 59
-    ∷ Step.Deliver 0 gives 0  -- clock 5: 60
-    ∷ Step.Deliver 1 gives 0  -- clock 7: 92
-    ∷ Step.Deliver 0 gives 0  -- clock 4: 61
-    ∷ Step.Deliver 1 gives 0  -- 93
-    ∷ Step.Close 15 gives 3  -- 94
+    Step.Prepare 15 gives 3  -- clock 4: 59
+    ∷ Step.Ask 15 5 gives 0  -- 60
+    ∷ Step.Ask 15 7 gives 1  -- 61
+    ∷ Step.Deliver 0 gives 0  -- clock 5: 63
+    ∷ Step.Deliver 1 gives 0  -- clock 7: 94
+    ∷ Step.Deliver 0 gives 0  -- clock 4: 64
+    ∷ Step.Deliver 1 gives 0  -- 95
+    ∷ Step.Close 15 gives 3  -- 96
     ∷ []
 
 -- home 7, slot 4: five calls to one station, delivered in another order than sent; the last delivered stands
+-- each reply carries the width before its own write, and they come home in the order of their slots
 abbrev pub fiveCalls : List Line
 fiveCalls =
     Step.Begin 7 4 1000 1010 gives 4  -- clock 7: 1
@@ -134,171 +144,113 @@ fiveCalls =
     ∷ Step.Invoke 4 7 1 17 40000 gives 3  -- 5
     ∷ Step.Invoke 4 7 1 17 50000 gives 4  -- 6
     ∷ Step.Deliver 4 gives 0  -- clock 4: 7
-    ∷ Step.Deliver 0 gives 50000  -- 8
-    ∷ Step.Deliver 2 gives 10000  -- 9
-    ∷ Step.Deliver 1 gives 30000  -- 10
-    ∷ Step.Deliver 3 gives 20000  -- 11
-    ∷ Step.Prepare 4 gives 1  -- clock 7: 7
-    ∷ Step.Ask 4 4 gives 0  -- 8
-    ∷ Step.Deliver 0 gives 0  -- clock 4: 12
-    ∷ Step.Deliver 0 gives 0  -- clock 7: 13
-    ∷ Step.Close 4 gives 2  -- 14
-    ∷ Step.Tell 4 4 gives 0  -- 15
-    ∷ Step.Deliver 0 gives 0  -- clock 4: 16
+    ∷ Step.Deliver 0 gives 0  -- 8
+    ∷ Step.Deliver 2 gives 0  -- 9
+    ∷ Step.Deliver 1 gives 0  -- 10
+    ∷ Step.Deliver 3 gives 0  -- 11
+    ∷ Step.Deliver 0 gives 50000  -- clock 7: 9
+    ∷ Step.Deliver 1 gives 30000  -- 11
+    ∷ Step.Deliver 2 gives 10000  -- 12
+    ∷ Step.Deliver 3 gives 20000  -- 13
+    ∷ Step.Deliver 4 gives 0  -- 14
+    ∷ Step.Prepare 4 gives 1  -- 15
+    ∷ Step.Ask 4 4 gives 0  -- 16
+    ∷ Step.Deliver 0 gives 0  -- clock 4: 17
+    ∷ Step.Deliver 0 gives 0  -- clock 7: 18
+    ∷ Step.Close 4 gives 2  -- 19
+    ∷ Step.Tell 4 4 gives 0  -- 20
+    ∷ Step.Deliver 0 gives 0  -- clock 4: 21
     ∷ []
 
--- home 7, slot 13: each station calls the next one down, and station 0 calls home; the n-th step moves a clock to n
+-- home 7, slot 13: each station calls the next one down, and station 0 calls home; the n-th step moves a clock to n, and the replies wait
 abbrev pub ringOut : List Line
 ringOut =
     Step.Begin 7 13 1000 1010 gives 13
     ∷ Step.Invoke 13 7 1 25 60006 gives 0
     ∷ Step.Deliver 0 gives 0
-    ∷ Step.Invoke 13 6 1 21 50005 gives 0
-    ∷ Step.Deliver 0 gives 0
-    ∷ Step.Invoke 13 5 1 17 40004 gives 0
-    ∷ Step.Deliver 0 gives 0
-    ∷ Step.Invoke 13 4 1 13 30003 gives 0
-    ∷ Step.Deliver 0 gives 0
-    ∷ Step.Invoke 13 3 1 9 20002 gives 0
-    ∷ Step.Deliver 0 gives 0
-    ∷ Step.Invoke 13 2 1 5 10001 gives 0
-    ∷ Step.Deliver 0 gives 0
-    ∷ Step.Invoke 13 1 1 1 100 gives 0
-    ∷ Step.Deliver 0 gives 0
-    ∷ Step.Invoke 13 0 0 29 0 gives 0
-    ∷ Step.Deliver 0 gives 0
+    ∷ Step.Invoke 13 6 1 21 50005 gives 1
+    ∷ Step.Deliver 1 gives 0
+    ∷ Step.Invoke 13 5 1 17 40004 gives 2
+    ∷ Step.Deliver 2 gives 0
+    ∷ Step.Invoke 13 4 1 13 30003 gives 3
+    ∷ Step.Deliver 3 gives 0
+    ∷ Step.Invoke 13 3 1 9 20002 gives 4
+    ∷ Step.Deliver 4 gives 0
+    ∷ Step.Invoke 13 2 1 5 10001 gives 5
+    ∷ Step.Deliver 5 gives 0
+    ∷ Step.Invoke 13 1 1 1 100 gives 6
+    ∷ Step.Deliver 6 gives 0
+    ∷ Step.Invoke 13 0 0 29 0 gives 7
+    ∷ Step.Deliver 7 gives 0
+    ∷ []
+
+-- eight replies wait, and go back the way that the calls came
+abbrev pub ringBack : List Line
+ringBack =
+    Step.Deliver 7 gives 0  -- clock 0: 18
+    ∷ Step.Deliver 6 gives 0  -- clock 1: 16
+    ∷ Step.Deliver 5 gives 0  -- clock 2: 14
+    ∷ Step.Deliver 4 gives 0  -- clock 3: 12
+    ∷ Step.Deliver 3 gives 0  -- clock 4: 10
+    ∷ Step.Deliver 2 gives 0  -- clock 5: 8
+    ∷ Step.Deliver 1 gives 0  -- clock 6: 6
+    ∷ Step.Deliver 0 gives 0  -- clock 7: 18
     ∷ []
 
 -- seven stations are asked; with one answer missing the round does not close
 abbrev pub ringAsked : List Line
 ringAsked =
-    Step.Prepare 13 gives 1  -- clock 7: 18
-    ∷ Step.Ask 13 0 gives 0  -- 19
-    ∷ Step.Ask 13 1 gives 1  -- 20
-    ∷ Step.Ask 13 2 gives 2  -- 21
-    ∷ Step.Ask 13 3 gives 3  -- 22
-    ∷ Step.Ask 13 4 gives 4  -- 23
-    ∷ Step.Ask 13 5 gives 5  -- 24
-    ∷ Step.Ask 13 6 gives 6  -- 25
-    ∷ Step.Deliver 0 gives 0  -- clock 0: 20
-    ∷ Step.Deliver 1 gives 0  -- clock 1: 21
-    ∷ Step.Deliver 2 gives 0  -- clock 2: 22
-    ∷ Step.Deliver 3 gives 0  -- clock 3: 23
-    ∷ Step.Deliver 4 gives 0  -- clock 4: 24
-    ∷ Step.Deliver 5 gives 0  -- clock 5: 25
-    ∷ Step.Deliver 6 gives 0  -- clock 6: 26
-    ∷ Step.Deliver 0 gives 0  -- clock 7: 26
-    ∷ Step.Deliver 1 gives 0  -- 27
-    ∷ Step.Deliver 2 gives 0  -- 28
-    ∷ Step.Deliver 3 gives 0  -- 29
-    ∷ Step.Deliver 4 gives 0  -- 30
-    ∷ Step.Deliver 5 gives 0  -- 31
+    Step.Prepare 13 gives 1  -- clock 7: 19
+    ∷ Step.Ask 13 0 gives 0  -- 20
+    ∷ Step.Ask 13 1 gives 1  -- 21
+    ∷ Step.Ask 13 2 gives 2  -- 22
+    ∷ Step.Ask 13 3 gives 3  -- 23
+    ∷ Step.Ask 13 4 gives 4  -- 24
+    ∷ Step.Ask 13 5 gives 5  -- 25
+    ∷ Step.Ask 13 6 gives 6  -- 26
+    ∷ Step.Deliver 0 gives 0  -- clock 0: 21
+    ∷ Step.Deliver 1 gives 0  -- clock 1: 22
+    ∷ Step.Deliver 2 gives 0  -- clock 2: 23
+    ∷ Step.Deliver 3 gives 0  -- clock 3: 24
+    ∷ Step.Deliver 4 gives 0  -- clock 4: 25
+    ∷ Step.Deliver 5 gives 0  -- clock 5: 26
+    ∷ Step.Deliver 6 gives 0  -- clock 6: 27
+    ∷ Step.Deliver 0 gives 0  -- clock 7: 27
+    ∷ Step.Deliver 1 gives 0  -- 28
+    ∷ Step.Deliver 2 gives 0  -- 29
+    ∷ Step.Deliver 3 gives 0  -- 30
+    ∷ Step.Deliver 4 gives 0  -- 31
+    ∷ Step.Deliver 5 gives 0  -- 32
     ∷ Step.Close 13 refusedBy 12
-    ∷ Step.Deliver 6 gives 0  -- 32
-    ∷ Step.Close 13 gives 8  -- 33
+    ∷ Step.Deliver 6 gives 0  -- 33
+    ∷ Step.Close 13 gives 8  -- 34
     ∷ []
 
 abbrev pub ringTold : List Line
 ringTold =
-    Step.Tell 13 6 gives 0  -- clock 7: 34
-    ∷ Step.Tell 13 5 gives 1  -- 35
-    ∷ Step.Tell 13 4 gives 2  -- 36
-    ∷ Step.Tell 13 3 gives 3  -- 37
-    ∷ Step.Tell 13 2 gives 4  -- 38
-    ∷ Step.Tell 13 1 gives 5  -- 39
+    Step.Tell 13 6 gives 0  -- clock 7: 35
+    ∷ Step.Tell 13 5 gives 1  -- 36
+    ∷ Step.Tell 13 4 gives 2  -- 37
+    ∷ Step.Tell 13 3 gives 3  -- 38
+    ∷ Step.Tell 13 2 gives 4  -- 39
+    ∷ Step.Tell 13 1 gives 5  -- 40
     ∷ Step.Retire 13 refusedBy 5
-    ∷ Step.Tell 13 0 gives 6  -- 40
-    ∷ Step.Deliver 0 gives 0  -- clock 6: 35
-    ∷ Step.Deliver 1 gives 0  -- clock 5: 36
-    ∷ Step.Deliver 2 gives 0  -- clock 4: 37
-    ∷ Step.Deliver 3 gives 0  -- clock 3: 38
-    ∷ Step.Deliver 4 gives 0  -- clock 2: 39
-    ∷ Step.Deliver 5 gives 0  -- clock 1: 40
-    ∷ Step.Deliver 6 gives 0  -- clock 0: 41
+    ∷ Step.Tell 13 0 gives 6  -- 41
+    ∷ Step.Deliver 0 gives 0  -- clock 6: 36
+    ∷ Step.Deliver 1 gives 0  -- clock 5: 37
+    ∷ Step.Deliver 2 gives 0  -- clock 4: 38
+    ∷ Step.Deliver 3 gives 0  -- clock 3: 39
+    ∷ Step.Deliver 4 gives 0  -- clock 2: 40
+    ∷ Step.Deliver 5 gives 0  -- clock 1: 41
+    ∷ Step.Deliver 6 gives 0  -- clock 0: 42
     ∷ Step.Retire 13 gives 0
-    ∷ []
-
--- home 5, slot 0: station 0 gives its promise twice, as its first answer is dropped; a terminate does not come between
-abbrev pub promisedTwice : List Line
-promisedTwice =
-    Step.Begin 5 0 60 70 gives 0  -- clock 5: 1
-    ∷ Step.Invoke 0 5 1 3 777 gives 0  -- 2
-    ∷ Step.Deliver 0 gives 0  -- clock 0: 3
-    ∷ Step.Prepare 0 gives 1  -- clock 5: 3
-    ∷ Step.Ask 0 0 gives 0  -- 4
-    ∷ Step.Deliver 0 gives 0  -- clock 0: 5
-    ∷ Step.Drop 0 gives 0
-    ∷ Step.Terminate 0 refusedBy 5
-    ∷ Step.Prepare 0 gives 2  -- clock 5: 5
-    ∷ Step.Ask 0 0 gives 0  -- 6
-    ∷ Step.Deliver 0 gives 0  -- clock 0: 7
-    ∷ Step.Deliver 0 gives 0  -- clock 5: 8
-    ∷ Step.Close 0 gives 2  -- 9
-    ∷ Step.Tell 0 0 gives 0  -- 10
-    ∷ Step.Deliver 0 gives 0  -- clock 0: 11
-    ∷ []
-
--- home 2, slot 9: station 4 has not been asked yet, so it calls on to station 5 while home commits, and its answer counts that call
-abbrev pub callBeforeAsked : List Line
-callBeforeAsked =
-    Step.Begin 2 9 60 70 gives 9  -- clock 2: 1
-    ∷ Step.Invoke 9 2 0 16 0 gives 0  -- 2
-    ∷ Step.Deliver 0 gives 0  -- clock 4: 3
-    ∷ Step.Prepare 9 gives 1  -- clock 2: 3
-    ∷ Step.Invoke 9 4 1 20 1700 gives 0  -- clock 4: 4
-    ∷ Step.Deliver 0 gives 0  -- clock 5: 5
-    ∷ Step.Ask 9 4 gives 0  -- clock 2: 4
-    ∷ Step.Ask 9 5 gives 1  -- 5
-    ∷ Step.Deliver 0 gives 0  -- clock 4: 5
-    ∷ Step.Deliver 1 gives 0  -- clock 5: 6
-    ∷ Step.Deliver 0 gives 0  -- clock 2: 6
-    ∷ Step.Close 9 refusedBy 12
-    ∷ Step.Deliver 1 gives 0  -- 7
-    ∷ Step.Close 9 gives 3  -- 8
-    ∷ []
-
--- home 3, slot 4: all four widths of station 7 are written and committed
-abbrev pub fourGates : List Line
-fourGates =
-    Step.Begin 3 4 60 70 gives 4  -- clock 3: 1
-    ∷ Step.Invoke 4 3 1 28 2800 gives 0  -- 2
-    ∷ Step.Invoke 4 3 1 29 2900 gives 1  -- 3
-    ∷ Step.Invoke 4 3 1 30 3000 gives 2  -- 4
-    ∷ Step.Invoke 4 3 1 31 3100 gives 3  -- 5
-    ∷ Step.Deliver 3 gives 0  -- clock 7: 6
-    ∷ Step.Deliver 2 gives 0  -- 7
-    ∷ Step.Deliver 1 gives 0  -- 8
-    ∷ Step.Deliver 0 gives 0  -- 9
-    ∷ Step.Prepare 4 gives 1  -- clock 3: 6
-    ∷ Step.Ask 4 7 gives 0  -- 7
-    ∷ Step.Deliver 0 gives 0  -- clock 7: 10
-    ∷ Step.Deliver 0 gives 0  -- clock 3: 11
-    ∷ Step.Close 4 gives 2  -- 12
-    ∷ Step.Tell 4 7 gives 0  -- 13
-    ∷ Step.Deliver 0 gives 0  -- clock 7: 14
-    ∷ []
-
--- home 7, slot 5: all four are written over, and one sweep restores them
-abbrev pub fourRestored : List Line
-fourRestored =
-    Step.Begin 7 5 60 70 gives 5  -- clock 7: 15
-    ∷ Step.Invoke 5 7 1 28 1 gives 0  -- 16
-    ∷ Step.Invoke 5 7 1 29 2 gives 1  -- 17
-    ∷ Step.Invoke 5 7 1 30 3 gives 2  -- 18
-    ∷ Step.Invoke 5 7 1 31 4 gives 3  -- 19
-    ∷ Step.Deliver 0 gives 2800  -- 20
-    ∷ Step.Deliver 1 gives 2900  -- 21
-    ∷ Step.Deliver 2 gives 3000  -- 22
-    ∷ Step.Deliver 3 gives 3100  -- 23
-    ∷ Step.Tick 7 100 gives 123
-    ∷ Step.Sweep 7 gives 1  -- 124
     ∷ []
 
 abbrev pub commitRows : List Row
 commitRows =
     -- two writes at two stations and one at home are committed and read back; the slot is retired and used again
     lines (crewWrites ++ crewCommits ++ checkReads ++ slotUsedAgain)
-    (clock 3 16 ∷ clock 2 15 ∷ clock 7 14 ∷ clock 6 3 ∷ width 29 1000000 ∷ holder 29 (Holder.Slot 9) ∷ before 29 1000000 ∷ width 9 23456
+    (clock 3 20 ∷ clock 2 20 ∷ clock 7 17 ∷ clock 6 21 ∷ width 29 1000000 ∷ holder 29 (Holder.Slot 9) ∷ before 29 1000000 ∷ width 9 23456
     ∷ holder 9 (Holder.Slot 9)
     ∷ width 13 4321
     ∷ holder 13 (Holder.Slot 5)
@@ -314,7 +266,7 @@ commitRows =
     ∷ [])
     -- two refreshes, used after the old times, then a commit in round 3
     ∷ lines (firstRefresh ++ secondRefresh ++ refreshedCommit)
-    (clock 4 94 ∷ clock 5 60 ∷ clock 7 92 ∷ status 15 Status.Committed ∷ round 15 3 Phase.Two ∷ unvisited 4 15 ∷ visit 5 15 60 600 3 2
+    (clock 4 96 ∷ clock 5 63 ∷ clock 7 94 ∷ status 15 Status.Committed ∷ round 15 3 Phase.Two ∷ unvisited 4 15 ∷ visit 5 15 63 600 3 2
     ∷ prepared 5 15 1
     ∷ sent 5 15 (0 ∷ 0 ∷ 0 ∷ 0 ∷ 0 ∷ 1 ∷ 0 ∷ 1 ∷ [])
     ∷ visit 7 15 60 600 3 1
@@ -329,10 +281,10 @@ abbrev pub countRows : List Row
 countRows =
     -- five calls to one station, and the commit closes
     lines fiveCalls
-    (clock 4 16 ∷ clock 7 15 ∷ width 17 40000 ∷ holder 17 Holder.Nobody ∷ before 17 0 ∷ status 4 Status.Committed ∷ unvisited 4 4 ∷ [])
+    (clock 4 21 ∷ clock 7 20 ∷ width 17 40000 ∷ holder 17 Holder.Nobody ∷ before 17 0 ∷ status 4 Status.Committed ∷ unvisited 4 4 ∷ [])
     -- a passage over all eight stations, in which calls go on from station to station
-    ∷ lines (ringOut ++ ringAsked ++ ringTold)
-    (clock 0 41 ∷ clock 1 40 ∷ clock 2 39 ∷ clock 3 38 ∷ clock 4 37 ∷ clock 5 36 ∷ clock 6 35 ∷ clock 7 40 ∷ width 1 100
+    ∷ lines (ringOut ++ ringBack ++ ringAsked ++ ringTold)
+    (clock 0 42 ∷ clock 1 41 ∷ clock 2 40 ∷ clock 3 39 ∷ clock 4 38 ∷ clock 5 37 ∷ clock 6 36 ∷ clock 7 41 ∷ width 1 100
     ∷ width 5 10001
     ∷ width 9 20002
     ∷ width 13 30003
@@ -346,35 +298,7 @@ countRows =
     ∷ [])
     ∷ []
 
-abbrev pub promiseRows : List Row
-promiseRows =
-    -- a promise is given again in the next round
-    lines promisedTwice
-    (clock 5 10 ∷ clock 0 11 ∷ status 0 Status.Committed ∷ round 0 2 Phase.Two ∷ unvisited 5 0 ∷ unvisited 0 0 ∷ width 3 777
-    ∷ holder 3 Holder.Nobody
-    ∷ before 3 0
-    ∷ [])
-    -- a call of a committing passage, from a visit that has given no promise yet
-    ∷ lines callBeforeAsked
-    (clock 2 8 ∷ clock 4 5 ∷ clock 5 6 ∷ status 9 Status.Committed ∷ visit 4 9 5 70 1 1 ∷ visit 5 9 6 70 1 1 ∷ prepared 5 9 1
-    ∷ sent 4 9 (0 ∷ 0 ∷ 0 ∷ 0 ∷ 0 ∷ 1 ∷ 0 ∷ 0 ∷ [])
-    ∷ width 20 1700
-    ∷ holder 20 (Holder.Slot 9)
-    ∷ [])
-    -- the four objects of one station, in one passage
-    ∷ lines (fourGates ++ fourRestored)
-    (clock 3 13 ∷ clock 7 124 ∷ width 28 2800 ∷ width 29 2900 ∷ width 30 3000 ∷ width 31 3100 ∷ holder 28 Holder.Nobody
-    ∷ holder 29 Holder.Nobody
-    ∷ holder 30 Holder.Nobody
-    ∷ holder 31 Holder.Nobody
-    ∷ before 28 0
-    ∷ before 31 0
-    ∷ status 4 Status.Committed
-    ∷ status 5 Status.Aborted
-    ∷ [])
-    ∷ []
-
--- every commit is as document 01 says
+-- every commit is as the two documents say
 pub commits-hold : map found commitRows ≡ map wanted commitRows
 unfolding found wanted
 commits-hold = refl
@@ -383,8 +307,3 @@ commits-hold = refl
 pub counts-hold : map found countRows ≡ map wanted countRows
 unfolding found wanted
 counts-hold = refl
-
--- and every promise
-pub promises-hold : map found promiseRows ≡ map wanted promiseRows
-unfolding found wanted
-promises-hold = refl

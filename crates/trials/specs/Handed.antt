@@ -1,13 +1,14 @@
 -- The second table of cases, tables that are handed in out of range: 20, before all else. The number stands at the end of its table, or next to it.
--- The answers were worked out by hand from document 01. Assumes nothing.
+-- The answers were worked out by hand from the two documents. Assumes nothing.
 use Prim.Native.Nat.{ℕ}
 use mathlib.Core.Bool.{true, false}
 use mathlib.Core.Path.{_≡_, refl}
 use mathlib.Core.List.{List, [], _∷_, map}
 use lib.ListN.{replicate, set}
 use Rattle.rules.specs.Tables.{start, noCounts, noRound, putPassage, putVisit, putMessage}
+use Rattle.rules.specs.Parts.{plainMessage}
 use Rattle.rules.specs.Record.{recordOfStep}
-use Rattle.rules.specs.Rows.{Row, _gives_, _refusedBy_, runOn, refused, linesOn, clock, found, wanted}
+use Rattle.rules.specs.Rows.{Row, _gives_, _refusedBy_, runOn, refused, linesOn, clock, mail, found, wanted}
 use Rattle.trials.specs.Types.{Holder, Kind, Phase, Status, Body, Tables, Step}
 use Rattle.trials.specs.Refusals.{startAt}
 
@@ -91,6 +92,10 @@ answerOn t handle stamp sent quiesce =
       sent = set noCounts 7 sent;
     })
 
+-- message slot 30, a reply from station 7 to station 0: its handle, its stamp, its value
+abbrev pub replyOn : Tables → ℕ → ℕ → ℕ → Tables
+replyOn t handle stamp value = putMessage t 30 (plainMessage (Body.Reply value) 7 0 handle stamp)
+
 -- ---- rows of one step
 
 -- a tick of station 3 is refused by 20, and its clock stays
@@ -104,7 +109,8 @@ withinRange t = linesOn t (Step.Tick 3 5 gives 5 ∷ []) (clock 3 5 ∷ [])
 -- everything at its highest
 abbrev pub allHighest : Tables
 allHighest =
-    answerOn
+    replyOn
+    (answerOn
     (visitOn
     (figuresOn
     (roundOn
@@ -124,7 +130,10 @@ allHighest =
     4095
     2000000000
     1000
-    1000000000
+    1000000000)
+    4095
+    2000000000
+    1000000
 
 abbrev pub handedRows : List Row
 handedRows =
@@ -163,11 +172,18 @@ handedRows =
     ∷ outOfRange (answerOn start 0 2000000001 0 0)
     ∷ outOfRange (answerOn start 0 0 1001 0)
     ∷ outOfRange (answerOn start 0 0 0 1000000001)
+    -- a reply
+    ∷ outOfRange (replyOn start 4096 0 0)
+    ∷ outOfRange (replyOn start 0 2000000001 0)
+    ∷ outOfRange (replyOn start 0 0 1000001)
+    -- no step takes it away
+    ∷ linesOn (replyOn start 0 0 1000001) (Step.Deliver 30 refusedBy 20 ∷ Step.Drop 30 refusedBy 20 ∷ []) (clock 0 0 ∷ mail 30 1 ∷ [])
+    ∷ withinRange (replyOn start 0 0 1000000)
     -- the highest of each
     ∷ withinRange allHighest
     ∷ []
 
--- every range is as document 01 says
+-- every range is as the two documents say
 pub handed-hold : map found handedRows ≡ map wanted handedRows
 unfolding found wanted
 handed-hold = refl

@@ -6,7 +6,7 @@ use mathlib.Core.Path.{_≡_, refl}
 use mathlib.Core.List.{List, [], _∷_, _++_, map}
 use lib.ListN.{replicate, set}
 use Rattle.rules.specs.Tables.{start, noCounts, noRound, putSite, putPassage, putVisit}
-use Rattle.rules.specs.Rows.{Row, Line, _gives_, _refusedBy_, run, accepted, refused, linesOn, lines, clock, holder, status, generation, round, visit, unvisited, sent, mail, found, wanted}
+use Rattle.rules.specs.Rows.{Row, Line, _gives_, _refusedBy_, run, accepted, refused, linesOn, lines, clock, holder, status, generation, round, visit, unvisited, sent, mail, post, found, wanted}
 use Rattle.trials.specs.Types.{Holder, Kind, Phase, Status, Tables, Step}
 use Rattle.trials.specs.Mail.{callsUpTo}
 
@@ -126,13 +126,14 @@ abortedStates =
     Step.Begin 4 13 60 70 gives 13  -- clock 4: 1
     ∷ Step.Invoke 13 4 0 23 0 gives 0  -- 2
     ∷ Step.Deliver 0 gives 0  -- clock 5: 3
-    ∷ Step.Refresh 13 80 90 gives 1  -- clock 4: 3
-    ∷ Step.Ask 13 5 gives 0  -- 4
-    ∷ Step.Deliver 0 gives 0  -- clock 5: 5
-    ∷ Step.Deliver 0 gives 0  -- clock 4: 6
+    ∷ Step.Deliver 0 gives 0  -- clock 4: 4
+    ∷ Step.Refresh 13 80 90 gives 1  -- 5
+    ∷ Step.Ask 13 5 gives 0  -- 6
+    ∷ Step.Deliver 0 gives 0  -- clock 5: 7
+    ∷ Step.Deliver 0 gives 0  -- clock 4: 8
     -- station 5 has answered, and the round is not closed
     ∷ Step.Tell 13 5 refusedBy 5
-    ∷ Step.Abort 13 gives 0  -- 7
+    ∷ Step.Abort 13 gives 0  -- 9
     ∷ Step.Begin 4 13 60 70 refusedBy 5
     ∷ Step.Refresh 13 90 100 refusedBy 5
     ∷ Step.Prepare 13 refusedBy 5
@@ -141,17 +142,18 @@ abortedStates =
     ∷ Step.Tell 13 5 refusedBy 5
     ∷ Step.Abort 13 refusedBy 5
     ∷ Step.Retire 13 refusedBy 5
-    -- home's Q is 7, that of station 5 is 60
+    -- home's Q is 9, that of station 5 is 60
     ∷ Step.Invoke 13 4 0 23 0 refusedBy 8
-    ∷ Step.Invoke 13 5 0 22 0 gives 0  -- clock 5: 6
-    ∷ Step.Deliver 0 gives 0  -- 7
-    ∷ Step.Terminate 13 gives 2  -- clock 4: 8
+    ∷ Step.Invoke 13 5 0 22 0 gives 0  -- clock 5: 8
+    ∷ Step.Deliver 0 gives 0  -- 9
+    ∷ Step.Deliver 0 gives 0  -- 10
+    ∷ Step.Terminate 13 gives 2  -- clock 4: 10
     ∷ Step.Tell 13 5 refusedBy 5
     ∷ Step.Ask 13 4 refusedBy 5
-    ∷ Step.Ask 13 5 gives 0  -- 9
-    ∷ Step.Deliver 0 gives 0  -- clock 5: 10
-    ∷ Step.Deliver 0 gives 0  -- clock 4: 11
-    ∷ Step.Close 13 gives 2  -- 12; the largest Q is 10, of station 5
+    ∷ Step.Ask 13 5 gives 0  -- 11
+    ∷ Step.Deliver 0 gives 0  -- clock 5: 12
+    ∷ Step.Deliver 0 gives 0  -- clock 4: 13
+    ∷ Step.Close 13 gives 2  -- 14; the largest Q is 12, of station 5
     ∷ Step.Refresh 13 90 100 refusedBy 5
     ∷ Step.Prepare 13 refusedBy 5
     ∷ Step.Ask 13 5 refusedBy 5
@@ -161,7 +163,7 @@ abortedStates =
     ∷ Step.Retire 13 refusedBy 5
     ∷ []
 
--- ---- 8, home 5, slot 3, Q 10 and R 20: a call goes out and comes in at 9 and not at 10, a sweep releases at 20 and not at 19
+-- ---- 8, home 5, slot 3, Q 10 and R 20: a call goes out and comes in at 9 and not at 10, its reply at 10 too, a sweep releases at 20 and not at 19
 
 abbrev pub onTime : List Line
 onTime =
@@ -172,7 +174,8 @@ onTime =
     ∷ Step.Invoke 3 5 0 2 0 refusedBy 8
     ∷ Step.Deliver 0 gives 0  -- clock 0: 9
     ∷ Step.Deliver 1 refusedBy 8
-    ∷ Step.Tick 5 9 gives 18
+    ∷ Step.Deliver 0 gives 0  -- clock 5: 10
+    ∷ Step.Tick 5 8 gives 18
     ∷ Step.Sweep 5 gives 0  -- 19
     ∷ Step.Sweep 5 gives 1  -- 20
     ∷ Step.Tick 0 20 gives 29
@@ -192,6 +195,7 @@ whichFirst =
     ∷ Step.Invoke 3 1 1 15 1500 gives 0  -- clock 1: 2
     ∷ Step.Invoke 4 2 0 15 0 gives 1  -- clock 2: 2
     ∷ Step.Deliver 0 gives 0  -- clock 3: 3
+    ∷ Step.Deliver 0 gives 0  -- clock 1: 4
     ∷ Step.Deliver 1 refusedBy 10
     ∷ Step.Tick 3 6 gives 9
     -- held and late: the call would come in at 10
@@ -262,16 +266,18 @@ lastCount =
     ∷ Step.Invoke 3 2 0 8 0 gives 1  -- 2
     ∷ Step.Invoke 3 2 0 8 0 gives 2  -- 3
     ∷ Step.Deliver 1 gives 0  -- 4
+    ∷ Step.Deliver 1 gives 0  -- 5
     ∷ Step.Deliver 2 refusedBy 13
-    -- the visit at station 7 has sent none
     ∷ Step.Deliver 0 gives 0  -- clock 7: 2
-    ∷ Step.Invoke 3 7 0 28 0 gives 0  -- 3
-    ∷ Step.Refresh 3 700 800 gives 1000  -- clock 2: 5
+    ∷ Step.Deliver 0 gives 0  -- clock 2: 6
+    -- the visit at station 7 has sent none
+    ∷ Step.Invoke 3 7 0 28 0 gives 0  -- clock 7: 3
+    ∷ Step.Refresh 3 700 800 gives 1000  -- clock 2: 7
     ∷ Step.Refresh 3 700 800 refusedBy 14
     ∷ Step.Prepare 3 refusedBy 14
     -- active, in round 1,000
     ∷ Step.Terminate 3 refusedBy 5
-    ∷ Step.Abort 3 gives 0  -- 6
+    ∷ Step.Abort 3 gives 0  -- 8
     ∷ Step.Terminate 3 refusedBy 14
     ∷ []
 
@@ -293,11 +299,12 @@ heldFirst =
     Step.Begin 2 4 500 600 gives 4  -- clock 2: 1
     ∷ Step.Invoke 4 2 0 8 0 gives 0  -- 2
     ∷ Step.Deliver 0 gives 0  -- 3
-    ∷ Step.Invoke 3 2 0 8 0 gives 0  -- 4
+    ∷ Step.Deliver 0 gives 0  -- 4
+    ∷ Step.Invoke 3 2 0 8 0 gives 0  -- 5
     ∷ Step.Deliver 0 refusedBy 10
-    ∷ Step.Invoke 3 2 0 9 0 gives 1  -- 5
+    ∷ Step.Invoke 3 2 0 9 0 gives 1  -- 6
     ∷ Step.Deliver 1 refusedBy 13
-    ∷ Step.Tick 2 1000 gives 1005
+    ∷ Step.Tick 2 1000 gives 1006
     ∷ Step.Deliver 0 refusedBy 8
     ∷ Step.Deliver 1 refusedBy 8
     ∷ []
@@ -322,11 +329,11 @@ refusalRows =
     -- 5
     ∷ lines wrongStates (clock 6 4 ∷ status 7 Status.Free ∷ generation 7 1 ∷ [])
     ∷ lines abortedStates
-    (clock 4 12 ∷ clock 5 10 ∷ status 13 Status.Aborted ∷ round 13 2 Phase.Two ∷ visit 4 13 7 10 2 0 ∷ visit 5 13 10 90 2 2 ∷ mail 0 0 ∷ [])
+    (clock 4 14 ∷ clock 5 12 ∷ status 13 Status.Aborted ∷ round 13 2 Phase.Two ∷ visit 4 13 9 12 2 0 ∷ visit 5 13 12 90 2 2 ∷ mail 0 0 ∷ [])
     -- 8
     ∷ lines onTime (clock 5 20 ∷ clock 0 30 ∷ status 3 Status.Free ∷ generation 3 1 ∷ [])
     -- 8 and 10, 4 and 5
-    ∷ lines whichFirst (clock 3 9 ∷ clock 0 1 ∷ holder 15 (Holder.Slot 3) ∷ unvisited 3 4 ∷ mail 1 1 ∷ [])
+    ∷ lines whichFirst (clock 3 9 ∷ clock 1 4 ∷ clock 0 1 ∷ holder 15 (Holder.Slot 3) ∷ unvisited 3 4 ∷ mail 0 0 ∷ mail 1 1 ∷ post 1 2 3 4 2 ∷ [])
     -- generation 255 is followed by 0
     ∷ linesOn
     lastGeneration
@@ -344,7 +351,7 @@ limitRows =
     linesOn (startAt 4 1999999998) lastClock (clock 4 2000000000 ∷ clock 3 2 ∷ [])
     -- 13 and 14
     ∷ linesOn (countsAt 999) lastCount
-    (clock 2 6 ∷ clock 7 3 ∷ visit 2 3 6 800 1000 1000 ∷ sent 2 3 (0 ∷ 0 ∷ 2 ∷ 0 ∷ 0 ∷ 0 ∷ 0 ∷ 1000 ∷ []) ∷ mail 2 1 ∷ [])
+    (clock 2 8 ∷ clock 7 3 ∷ visit 2 3 8 800 1000 1000 ∷ sent 2 3 (0 ∷ 0 ∷ 2 ∷ 0 ∷ 0 ∷ 0 ∷ 0 ∷ 1000 ∷ []) ∷ mail 2 1 ∷ [])
     ∷ linesOn (countsAt 999) (Step.Prepare 3 gives 1000 ∷ Step.Prepare 3 refusedBy 14 ∷ []) (clock 2 1 ∷ round 3 1000 Phase.One ∷ [])
     ∷ linesOn
     (countsAt 999)
@@ -353,7 +360,8 @@ limitRows =
     -- 11 before 13
     ∷ linesOn (countsAt 1000) fullFirst (clock 2 1033 ∷ sent 2 3 (33 ∷ 0 ∷ 0 ∷ 0 ∷ 0 ∷ 0 ∷ 0 ∷ 1000 ∷ []) ∷ mail 30 1 ∷ mail 31 0 ∷ [])
     -- 10 before 13
-    ∷ linesOn (countsAt 1000) heldFirst (clock 2 1005 ∷ visit 2 3 500 600 1000 1000 ∷ holder 8 (Holder.Slot 4) ∷ holder 9 Holder.Nobody ∷ mail 0 1 ∷ mail 1 1 ∷ [])
+    ∷ linesOn (countsAt 1000) heldFirst
+    (clock 2 1006 ∷ visit 2 3 500 600 1000 1000 ∷ holder 8 (Holder.Slot 4) ∷ holder 9 Holder.Nobody ∷ mail 0 1 ∷ mail 1 1 ∷ [])
     ∷ []
 
 -- every refusal is as documents 01 and 02 say

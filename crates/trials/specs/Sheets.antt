@@ -14,8 +14,8 @@ use Rattle.rules.specs.Rows.{Row, sheet, found, wanted}
 abbrev pub heading : List ℕ
 heading = 80 ∷ 65 ∷ 83 ∷ 83 ∷ 10 ∷ []
 
--- twenty-five records: tick 3; begin home 3 slot 5; two writes of object 29, delivered the second first; an empty message slot; tick 7;
--- prepare, ask, two deliveries, close, tell, deliver; retire; begin home 7 slot 5; read object 29;
+-- twenty-eight records: tick 3; begin home 3 slot 5; two writes of object 29, delivered the second first, each with its reply;
+-- an empty message slot; tick 7; prepare, ask, two deliveries, close, tell, deliver; retire; begin home 7 slot 5; read object 29, and its reply;
 -- abort by the old handle, by the new one; crash 7; tick 7 while it is down; the same with a zero byte set; retire of handle 277, slot 5 in generation 17
 abbrev pub longRecords : List ℕ
 longRecords =
@@ -24,6 +24,8 @@ longRecords =
     ∷ 3 ∷ 3 ∷ 1 ∷ 29 ∷ 5 ∷ 0 ∷ 0 ∷ 0 ∷ 64 ∷ 66 ∷ 15 ∷ 0 ∷ 0 ∷ 0 ∷ 0 ∷ 0
     ∷ 3 ∷ 3 ∷ 1 ∷ 29 ∷ 5 ∷ 0 ∷ 0 ∷ 0 ∷ 112 ∷ 17 ∷ 1 ∷ 0 ∷ 0 ∷ 0 ∷ 0 ∷ 0
     ∷ 11 ∷ 0 ∷ 0 ∷ 1 ∷ 0 ∷ 0 ∷ 0 ∷ 0 ∷ 0 ∷ 0 ∷ 0 ∷ 0 ∷ 0 ∷ 0 ∷ 0 ∷ 0
+    ∷ 11 ∷ 0 ∷ 0 ∷ 1 ∷ 0 ∷ 0 ∷ 0 ∷ 0 ∷ 0 ∷ 0 ∷ 0 ∷ 0 ∷ 0 ∷ 0 ∷ 0 ∷ 0
+    ∷ 11 ∷ 0 ∷ 0 ∷ 0 ∷ 0 ∷ 0 ∷ 0 ∷ 0 ∷ 0 ∷ 0 ∷ 0 ∷ 0 ∷ 0 ∷ 0 ∷ 0 ∷ 0
     ∷ 11 ∷ 0 ∷ 0 ∷ 0 ∷ 0 ∷ 0 ∷ 0 ∷ 0 ∷ 0 ∷ 0 ∷ 0 ∷ 0 ∷ 0 ∷ 0 ∷ 0 ∷ 0
     ∷ 11 ∷ 0 ∷ 0 ∷ 0 ∷ 0 ∷ 0 ∷ 0 ∷ 0 ∷ 0 ∷ 0 ∷ 0 ∷ 0 ∷ 0 ∷ 0 ∷ 0 ∷ 0
     ∷ 1 ∷ 7 ∷ 0 ∷ 0 ∷ 0 ∷ 0 ∷ 0 ∷ 0 ∷ 2 ∷ 1 ∷ 0 ∷ 0 ∷ 0 ∷ 0 ∷ 0 ∷ 0
@@ -38,6 +40,7 @@ longRecords =
     ∷ 2 ∷ 7 ∷ 5 ∷ 0 ∷ 0 ∷ 0 ∷ 0 ∷ 0 ∷ 128 ∷ 132 ∷ 30 ∷ 0 ∷ 192 ∷ 198 ∷ 45 ∷ 0
     ∷ 3 ∷ 7 ∷ 0 ∷ 29 ∷ 21 ∷ 0 ∷ 0 ∷ 0 ∷ 0 ∷ 0 ∷ 0 ∷ 0 ∷ 0 ∷ 0 ∷ 0 ∷ 0
     ∷ 11 ∷ 0 ∷ 0 ∷ 0 ∷ 0 ∷ 0 ∷ 0 ∷ 0 ∷ 0 ∷ 0 ∷ 0 ∷ 0 ∷ 0 ∷ 0 ∷ 0 ∷ 0
+    ∷ 11 ∷ 0 ∷ 0 ∷ 0 ∷ 0 ∷ 0 ∷ 0 ∷ 0 ∷ 0 ∷ 0 ∷ 0 ∷ 0 ∷ 0 ∷ 0 ∷ 0 ∷ 0
     ∷ 10 ∷ 0 ∷ 0 ∷ 0 ∷ 5 ∷ 0 ∷ 0 ∷ 0 ∷ 0 ∷ 0 ∷ 0 ∷ 0 ∷ 0 ∷ 0 ∷ 0 ∷ 0
     ∷ 10 ∷ 0 ∷ 0 ∷ 0 ∷ 21 ∷ 0 ∷ 0 ∷ 0 ∷ 0 ∷ 0 ∷ 0 ∷ 0 ∷ 0 ∷ 0 ∷ 0 ∷ 0
     ∷ 14 ∷ 7 ∷ 0 ∷ 0 ∷ 0 ∷ 0 ∷ 0 ∷ 0 ∷ 0 ∷ 0 ∷ 0 ∷ 0 ∷ 0 ∷ 0 ∷ 0 ∷ 0
@@ -46,11 +49,11 @@ longRecords =
     ∷ 16 ∷ 0 ∷ 0 ∷ 0 ∷ 21 ∷ 1 ∷ 0 ∷ 0 ∷ 0 ∷ 0 ∷ 0 ∷ 0 ∷ 0 ∷ 0 ∷ 0 ∷ 0
     ∷ []
 
--- a distance of 400, 25 records
+-- a distance of 448, 28 records
 abbrev pub longTrailer : List ℕ
-longTrailer = 144 ∷ 1 ∷ 0 ∷ 0 ∷ 80 ∷ 65 ∷ 83 ∷ 83 ∷ []
+longTrailer = 192 ∷ 1 ∷ 0 ∷ 0 ∷ 80 ∷ 65 ∷ 83 ∷ 83 ∷ []
 
--- the twenty-five lines
+-- the twenty-eight lines
 abbrev pub longListing : List ℕ
 longListing =
     49 ∷ 32 ∷ 48 ∷ 32 ∷ 49 ∷ 48 ∷ 48 ∷ 48 ∷ 48 ∷ 48 ∷ 48 ∷ 10  -- 1 0 1000000
@@ -58,26 +61,29 @@ longListing =
     ∷ 51 ∷ 32 ∷ 48 ∷ 32 ∷ 48 ∷ 10  -- 3 0 0
     ∷ 52 ∷ 32 ∷ 48 ∷ 32 ∷ 49 ∷ 10  -- 4 0 1
     ∷ 53 ∷ 32 ∷ 48 ∷ 32 ∷ 48 ∷ 10  -- 5 0 0
-    ∷ 54 ∷ 32 ∷ 48 ∷ 32 ∷ 55 ∷ 48 ∷ 48 ∷ 48 ∷ 48 ∷ 10  -- 6 0 70000
-    ∷ 55 ∷ 32 ∷ 51 ∷ 32 ∷ 48 ∷ 10  -- 7 3 0
-    ∷ 56 ∷ 32 ∷ 48 ∷ 32 ∷ 49 ∷ 48 ∷ 48 ∷ 48 ∷ 50 ∷ 54 ∷ 51 ∷ 10  -- 8 0 1000263
-    ∷ 57 ∷ 32 ∷ 48 ∷ 32 ∷ 49 ∷ 10  -- 9 0 1
-    ∷ 49 ∷ 48 ∷ 32 ∷ 48 ∷ 32 ∷ 48 ∷ 10  -- 10 0 0
-    ∷ 49 ∷ 49 ∷ 32 ∷ 48 ∷ 32 ∷ 48 ∷ 10  -- 11 0 0
+    ∷ 54 ∷ 32 ∷ 48 ∷ 32 ∷ 48 ∷ 10  -- 6 0 0
+    ∷ 55 ∷ 32 ∷ 48 ∷ 32 ∷ 48 ∷ 10  -- 7 0 0
+    ∷ 56 ∷ 32 ∷ 48 ∷ 32 ∷ 55 ∷ 48 ∷ 48 ∷ 48 ∷ 48 ∷ 10  -- 8 0 70000
+    ∷ 57 ∷ 32 ∷ 51 ∷ 32 ∷ 48 ∷ 10  -- 9 3 0
+    ∷ 49 ∷ 48 ∷ 32 ∷ 48 ∷ 32 ∷ 49 ∷ 48 ∷ 48 ∷ 48 ∷ 50 ∷ 54 ∷ 51 ∷ 10  -- 10 0 1000263
+    ∷ 49 ∷ 49 ∷ 32 ∷ 48 ∷ 32 ∷ 49 ∷ 10  -- 11 0 1
     ∷ 49 ∷ 50 ∷ 32 ∷ 48 ∷ 32 ∷ 48 ∷ 10  -- 12 0 0
-    ∷ 49 ∷ 51 ∷ 32 ∷ 48 ∷ 32 ∷ 50 ∷ 10  -- 13 0 2
+    ∷ 49 ∷ 51 ∷ 32 ∷ 48 ∷ 32 ∷ 48 ∷ 10  -- 13 0 0
     ∷ 49 ∷ 52 ∷ 32 ∷ 48 ∷ 32 ∷ 48 ∷ 10  -- 14 0 0
-    ∷ 49 ∷ 53 ∷ 32 ∷ 48 ∷ 32 ∷ 48 ∷ 10  -- 15 0 0
+    ∷ 49 ∷ 53 ∷ 32 ∷ 48 ∷ 32 ∷ 50 ∷ 10  -- 15 0 2
     ∷ 49 ∷ 54 ∷ 32 ∷ 48 ∷ 32 ∷ 48 ∷ 10  -- 16 0 0
-    ∷ 49 ∷ 55 ∷ 32 ∷ 48 ∷ 32 ∷ 50 ∷ 49 ∷ 10  -- 17 0 21
+    ∷ 49 ∷ 55 ∷ 32 ∷ 48 ∷ 32 ∷ 48 ∷ 10  -- 17 0 0
     ∷ 49 ∷ 56 ∷ 32 ∷ 48 ∷ 32 ∷ 48 ∷ 10  -- 18 0 0
-    ∷ 49 ∷ 57 ∷ 32 ∷ 48 ∷ 32 ∷ 49 ∷ 48 ∷ 48 ∷ 48 ∷ 48 ∷ 48 ∷ 48 ∷ 10  -- 19 0 1000000
-    ∷ 50 ∷ 48 ∷ 32 ∷ 51 ∷ 32 ∷ 48 ∷ 10  -- 20 3 0
+    ∷ 49 ∷ 57 ∷ 32 ∷ 48 ∷ 32 ∷ 50 ∷ 49 ∷ 10  -- 19 0 21
+    ∷ 50 ∷ 48 ∷ 32 ∷ 48 ∷ 32 ∷ 48 ∷ 10  -- 20 0 0
     ∷ 50 ∷ 49 ∷ 32 ∷ 48 ∷ 32 ∷ 48 ∷ 10  -- 21 0 0
-    ∷ 50 ∷ 50 ∷ 32 ∷ 48 ∷ 32 ∷ 48 ∷ 10  -- 22 0 0
-    ∷ 50 ∷ 51 ∷ 32 ∷ 52 ∷ 32 ∷ 48 ∷ 10  -- 23 4 0
-    ∷ 50 ∷ 52 ∷ 32 ∷ 49 ∷ 32 ∷ 48 ∷ 10  -- 24 1 0
-    ∷ 50 ∷ 53 ∷ 32 ∷ 51 ∷ 32 ∷ 48 ∷ 10  -- 25 3 0
+    ∷ 50 ∷ 50 ∷ 32 ∷ 48 ∷ 32 ∷ 49 ∷ 48 ∷ 48 ∷ 48 ∷ 48 ∷ 48 ∷ 48 ∷ 10  -- 22 0 1000000
+    ∷ 50 ∷ 51 ∷ 32 ∷ 51 ∷ 32 ∷ 48 ∷ 10  -- 23 3 0
+    ∷ 50 ∷ 52 ∷ 32 ∷ 48 ∷ 32 ∷ 48 ∷ 10  -- 24 0 0
+    ∷ 50 ∷ 53 ∷ 32 ∷ 48 ∷ 32 ∷ 48 ∷ 10  -- 25 0 0
+    ∷ 50 ∷ 54 ∷ 32 ∷ 52 ∷ 32 ∷ 48 ∷ 10  -- 26 4 0
+    ∷ 50 ∷ 55 ∷ 32 ∷ 49 ∷ 32 ∷ 48 ∷ 10  -- 27 1 0
+    ∷ 50 ∷ 56 ∷ 32 ∷ 51 ∷ 32 ∷ 48 ∷ 10  -- 28 3 0
     ∷ []
 
 -- "sheet", a space, the number's digit, a newline
@@ -138,7 +144,7 @@ sheetRows =
     ∷ sheet (oneTick ++ (16 ∷ 0 ∷ 0 ∷ 1 ∷ 80 ∷ 65 ∷ 83 ∷ 83 ∷ [])) (refusedSheet 52)
     ∷ []
 
--- every listing is as document 01 says
+-- every listing is as the two documents say
 pub sheets-hold : map found sheetRows ≡ map wanted sheetRows
 unfolding found wanted
 sheets-hold = refl

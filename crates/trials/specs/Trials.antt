@@ -3,13 +3,16 @@
 use mathlib.Core.Path.{_≡_}
 use mathlib.Core.List.{List, _++_, map, map-append}
 use Rattle.rules.specs.Rows.{Row, found, wanted}
-use Rattle.trials.specs.Commits.{commitRows, countRows, promiseRows, commits-hold, counts-hold, promises-hold}
-use Rattle.trials.specs.Rounds.{roundRows, terminateRows, refreshRows, answerRows, rounds-hold, terminates-hold, refreshes-hold, answers-hold}
+use Rattle.trials.specs.Commits.{commitRows, countRows, commits-hold, counts-hold}
+use Rattle.trials.specs.Promises.{promiseRows, promises-hold}
+use Rattle.trials.specs.Rounds.{roundRows, terminateRows, answerRows, rounds-hold, terminates-hold, answers-hold}
+use Rattle.trials.specs.Refreshes.{refreshRows, refreshes-hold}
 use Rattle.trials.specs.Undone.{undoneRows, sweepRows, releaseRows, undone-hold, sweeps-hold, releases-hold}
 use Rattle.trials.specs.Crashes.{crashRows, outageRows, crashes-hold, outages-hold}
 use Rattle.trials.specs.Mail.{mailRows, waitingRows, mails-hold, waits-hold}
 use Rattle.trials.specs.Refusals.{refusalRows, limitRows, refusals-hold, limits-hold}
 use Rattle.trials.specs.Handed.{handedRows, handed-hold}
+use Rattle.trials.specs.Replies.{replyRows, lateReplyRows, replyLimitRows, replies-hold, late-replies-hold, reply-limits-hold}
 use Rattle.trials.specs.Sheets.{sheetRows, sheets-hold}
 
 -- two tables that hold are one that holds
@@ -36,8 +39,12 @@ fallingRows = (undoneRows ++ (sweepRows ++ releaseRows)) ++ (crashRows ++ outage
 abbrev pub spokenRows : List Row
 spokenRows = (mailRows ++ waitingRows) ++ ((refusalRows ++ limitRows) ++ (handedRows ++ sheetRows))
 
+-- what comes home: replies
+abbrev pub homingRows : List Row
+homingRows = replyRows ++ (lateReplyRows ++ replyLimitRows)
+
 abbrev pub trialRows : List Row
-trialRows = (standingRows ++ openRows) ++ (fallingRows ++ spokenRows)
+trialRows = (standingRows ++ openRows) ++ (fallingRows ++ (spokenRows ++ homingRows))
 
 -- every row is as documents 01 and 02 say
 pub trials-hold : map found trialRows ≡ map wanted trialRows
@@ -54,5 +61,8 @@ trials-hold =
     let refused = hold-joined refusalRows limitRows refusals-hold limits-hold in
     let told = hold-joined (refusalRows ++ limitRows) (handedRows ++ sheetRows) refused lists in
     let says = hold-joined (mailRows ++ waitingRows) ((refusalRows ++ limitRows) ++ (handedRows ++ sheetRows)) post told in
+    let late = hold-joined lateReplyRows replyLimitRows late-replies-hold reply-limits-hold in
+    let homes = hold-joined replyRows (lateReplyRows ++ replyLimitRows) replies-hold late in
     let held = hold-joined standingRows openRows stands opens in
-    hold-joined (standingRows ++ openRows) (fallingRows ++ spokenRows) held (hold-joined fallingRows spokenRows falls says)
+    let rest = hold-joined fallingRows (spokenRows ++ homingRows) falls (hold-joined spokenRows homingRows says homes) in
+    hold-joined (standingRows ++ openRows) (fallingRows ++ (spokenRows ++ homingRows)) held rest

@@ -1,5 +1,5 @@
 -- The second table of cases, what is undone: aborts and sweeps.
--- The answers were worked out by hand from document 01; a clock beside a line is that of the acting station after it. Assumes nothing.
+-- The answers were worked out by hand from the two documents; a clock beside a line is that of the acting station after it. Assumes nothing.
 use Prim.Native.Nat.{ℕ, zero, suc}
 use mathlib.Core.Path.{_≡_, refl}
 use mathlib.Core.List.{List, [], _∷_, _++_, map}
@@ -12,40 +12,44 @@ firstWidth =
     Step.Begin 7 0 100 200 gives 0  -- clock 7: 1
     ∷ Step.Invoke 0 7 1 31 3210 gives 0  -- 2
     ∷ Step.Deliver 0 gives 0  -- 3
-    ∷ Step.Prepare 0 gives 1  -- 4
-    ∷ Step.Close 0 gives 1  -- 5
+    ∷ Step.Deliver 0 gives 0  -- 4
+    ∷ Step.Prepare 0 gives 1  -- 5
+    ∷ Step.Close 0 gives 1  -- 6
     ∷ Step.Retire 0 gives 0
     ∷ []
 
--- home 6, slot 4: it is written twice and the passage aborted; the larger Q, 8 at station 7, is the new release time
+-- home 6, slot 4: it is written twice and the passage aborted; the larger Q, 15 at station 7, is the new release time
 abbrev pub writesUndone : List Line
 writesUndone =
     Step.Begin 6 4 100 110 gives 4  -- clock 6: 1
     ∷ Step.Invoke 4 6 1 31 15000 gives 0  -- 2
-    ∷ Step.Deliver 0 gives 3210  -- clock 7: 6
-    ∷ Step.Invoke 4 6 1 31 16000 gives 0  -- clock 6: 3
-    ∷ Step.Deliver 0 gives 15000  -- clock 7: 7
-    ∷ Step.Abort 4 gives 0  -- clock 6: 4
+    ∷ Step.Deliver 0 gives 0  -- clock 7: 7
+    ∷ Step.Deliver 0 gives 3210  -- clock 6: 8
+    ∷ Step.Invoke 4 6 1 31 16000 gives 0  -- 9
+    ∷ Step.Deliver 0 gives 0  -- clock 7: 10
+    ∷ Step.Deliver 0 gives 15000  -- clock 6: 11
+    ∷ Step.Abort 4 gives 0  -- 12
     ∷ Step.Abort 4 refusedBy 5
-    ∷ Step.Terminate 4 gives 1  -- 5
-    ∷ Step.Ask 4 7 gives 0  -- 6
-    ∷ Step.Deliver 0 gives 0  -- clock 7: 8
-    ∷ Step.Deliver 0 gives 0  -- clock 6: 9
-    ∷ Step.Close 4 gives 2  -- 10
-    ∷ Step.Tell 4 7 gives 0  -- 11
+    ∷ Step.Terminate 4 gives 1  -- 13
+    ∷ Step.Ask 4 7 gives 0  -- 14
+    ∷ Step.Deliver 0 gives 0  -- clock 7: 15
+    ∷ Step.Deliver 0 gives 0  -- clock 6: 16
+    ∷ Step.Close 4 gives 2  -- 17
+    ∷ Step.Tell 4 7 gives 0  -- 18
     ∷ Step.Retire 4 refusedBy 5
     ∷ []
 
 -- home 7, slot 3: a read is refused by 10 until the sweep, then it reads 3,210 again
 abbrev pub widthReadBack : List Line
 widthReadBack =
-    Step.Begin 7 3 100 200 gives 3  -- clock 7: 9
-    ∷ Step.Invoke 3 7 0 31 0 gives 1  -- 10
+    Step.Begin 7 3 100 200 gives 3  -- clock 7: 16
+    ∷ Step.Invoke 3 7 0 31 0 gives 1  -- 17
     ∷ Step.Deliver 1 refusedBy 10
-    ∷ Step.Sweep 7 gives 0  -- 11
-    ∷ Step.Deliver 0 gives 0  -- 12
-    ∷ Step.Sweep 7 gives 1  -- 13
-    ∷ Step.Deliver 1 gives 3210  -- 14
+    ∷ Step.Sweep 7 gives 0  -- 18
+    ∷ Step.Deliver 0 gives 0  -- 19
+    ∷ Step.Sweep 7 gives 1  -- 20
+    ∷ Step.Deliver 1 gives 0  -- 21
+    ∷ Step.Deliver 1 gives 3210  -- 22
     -- the home visit remains
     ∷ Step.Retire 4 refusedBy 5
     ∷ []
@@ -56,28 +60,29 @@ promiseLetOff =
     Step.Begin 5 1 200 300 gives 1  -- clock 5: 1
     ∷ Step.Invoke 1 5 1 10 640 gives 0  -- 2
     ∷ Step.Deliver 0 gives 0  -- clock 2: 3
-    ∷ Step.Prepare 1 gives 1  -- clock 5: 3
-    ∷ Step.Ask 1 2 gives 0  -- 4
-    ∷ Step.Deliver 0 gives 0  -- clock 2: 5
-    ∷ Step.Tick 2 400 gives 405
-    ∷ Step.Sweep 2 gives 0  -- 406
-    ∷ Step.Crash 5 gives 0  -- clock 5: 5
+    ∷ Step.Deliver 0 gives 0  -- clock 5: 4
+    ∷ Step.Prepare 1 gives 1  -- 5
+    ∷ Step.Ask 1 2 gives 0  -- 6
+    ∷ Step.Deliver 0 gives 0  -- clock 2: 7
+    ∷ Step.Tick 2 400 gives 407
+    ∷ Step.Sweep 2 gives 0  -- 408
+    ∷ Step.Crash 5 gives 0  -- clock 5: 7
     ∷ Step.Deliver 0 refusedBy 4
     -- a drop acts at no site
     ∷ Step.Drop 0 gives 0
-    ∷ Step.Recover 5 gives 0  -- 6
+    ∷ Step.Recover 5 gives 0  -- 8
     ∷ Step.Deliver 0 refusedBy 3
-    ∷ Step.Terminate 1 gives 2  -- 7
-    ∷ Step.Ask 1 2 gives 0  -- 8
-    ∷ Step.Deliver 0 gives 0  -- clock 2: 407
-    ∷ Step.Sweep 2 gives 1  -- 408
-    ∷ Step.Deliver 0 gives 0  -- clock 5: 408
-    ∷ Step.Close 1 gives 2  -- 409
-    ∷ Step.Tell 1 2 gives 0  -- 410
+    ∷ Step.Terminate 1 gives 2  -- 9
+    ∷ Step.Ask 1 2 gives 0  -- 10
+    ∷ Step.Deliver 0 gives 0  -- clock 2: 409
+    ∷ Step.Sweep 2 gives 1  -- 410
+    ∷ Step.Deliver 0 gives 0  -- clock 5: 410
+    ∷ Step.Close 1 gives 2  -- 411
+    ∷ Step.Tell 1 2 gives 0  -- 412
     -- the visit that is told is gone
     ∷ Step.Deliver 0 refusedBy 6
     ∷ Step.Drop 0 gives 0
-    ∷ Step.Sweep 5 gives 1  -- 411
+    ∷ Step.Sweep 5 gives 1  -- 413
     ∷ Step.Retire 1 gives 0
     ∷ []
 
@@ -90,26 +95,30 @@ fourVisits =
     ∷ Step.Begin 6 13 1500000 2000000 gives 13  -- 4
     ∷ Step.Invoke 0 6 1 24 100 gives 0  -- 5
     ∷ Step.Deliver 0 gives 0  -- 6
-    ∷ Step.Invoke 11 6 1 25 200 gives 0  -- 7
-    ∷ Step.Deliver 0 gives 0  -- 8
-    ∷ Step.Prepare 12 gives 1  -- 9
+    ∷ Step.Deliver 0 gives 0  -- 7
+    ∷ Step.Invoke 11 6 1 25 200 gives 0  -- 8
+    ∷ Step.Deliver 0 gives 0  -- 9
+    ∷ Step.Deliver 0 gives 0  -- 10
+    ∷ Step.Prepare 12 gives 1  -- 11
     ∷ []
 
 -- one sweep takes two of them; all of it at clocks above 1,000,000, which a message carries to station 0
 abbrev pub twoSwept : List Line
 twoSwept =
-    Step.Tick 6 49 gives 58
+    Step.Tick 6 47 gives 58
     ∷ Step.Sweep 6 gives 0  -- 59
     ∷ Step.Tick 6 1000000 gives 1000059
     ∷ Step.Sweep 6 gives 2  -- 1,000,060
     ∷ Step.Invoke 13 6 0 25 0 gives 0  -- 1,000,061
     ∷ Step.Deliver 0 gives 0  -- 1,000,062
-    ∷ Step.Invoke 13 6 0 3 0 gives 0  -- 1,000,063
-    ∷ Step.Deliver 0 gives 0  -- clock 0: 1,000,064
-    ∷ Step.Tick 6 999999 gives 2000062
-    ∷ Step.Sweep 6 gives 1  -- 2,000,063
-    ∷ Step.Abort 12 gives 0  -- 2,000,064
-    ∷ Step.Sweep 6 gives 1  -- 2,000,065
+    ∷ Step.Deliver 0 gives 0  -- 1,000,063
+    ∷ Step.Invoke 13 6 0 3 0 gives 0  -- 1,000,064
+    ∷ Step.Deliver 0 gives 0  -- clock 0: 1,000,065
+    ∷ Step.Deliver 0 gives 0  -- clock 6: 1,000,066
+    ∷ Step.Tick 6 999999 gives 2000065
+    ∷ Step.Sweep 6 gives 1  -- 2,000,066
+    ∷ Step.Abort 12 gives 0  -- 2,000,067
+    ∷ Step.Sweep 6 gives 1  -- 2,000,068
     ∷ Step.Retire 0 gives 0
     ∷ Step.Retire 13 refusedBy 5
     ∷ Step.Retire 12 gives 0
@@ -121,12 +130,13 @@ sweptAway =
     Step.Begin 2 9 100 110 gives 9  -- clock 2: 1
     ∷ Step.Invoke 9 2 1 18 4444 gives 0  -- 2
     ∷ Step.Deliver 0 gives 0  -- clock 4: 3
+    ∷ Step.Deliver 0 gives 0  -- clock 2: 4
     ∷ Step.Tick 4 200 gives 203
     ∷ Step.Sweep 4 gives 1  -- 204
-    ∷ Step.Invoke 9 2 0 18 0 gives 0  -- clock 2: 3
+    ∷ Step.Invoke 9 2 0 18 0 gives 0  -- clock 2: 5
     ∷ Step.Deliver 0 refusedBy 8
-    ∷ Step.Refresh 9 300 310 gives 1  -- 4
-    ∷ Step.Ask 9 4 gives 1  -- 5
+    ∷ Step.Refresh 9 300 310 gives 1  -- 6
+    ∷ Step.Ask 9 4 gives 1  -- 7
     ∷ Step.Deliver 1 refusedBy 6
     ∷ []
 
@@ -136,14 +146,15 @@ homeSwept =
     Step.Begin 6 1 30 40 gives 1  -- clock 6: 1
     ∷ Step.Invoke 1 6 1 27 900 gives 0  -- 2
     ∷ Step.Deliver 0 gives 0  -- 3
-    ∷ Step.Abort 1 gives 0  -- 4
-    ∷ Step.Terminate 1 gives 1  -- 5
-    ∷ Step.Tick 6 40 gives 45
-    ∷ Step.Sweep 6 gives 1  -- 46
-    ∷ Step.Close 1 gives 1  -- 47
+    ∷ Step.Deliver 0 gives 0  -- 4
+    ∷ Step.Abort 1 gives 0  -- 5
+    ∷ Step.Terminate 1 gives 1  -- 6
+    ∷ Step.Tick 6 40 gives 46
+    ∷ Step.Sweep 6 gives 1  -- 47
+    ∷ Step.Close 1 gives 1  -- 48
     ∷ Step.Terminate 1 refusedBy 6
     ∷ Step.Invoke 1 6 0 27 0 refusedBy 6
-    ∷ Step.Crash 6 gives 0  -- 48
+    ∷ Step.Crash 6 gives 0  -- 49
     -- a retire acts at no site
     ∷ Step.Retire 1 gives 0
     ∷ []
@@ -154,7 +165,8 @@ unasked =
     Step.Begin 2 14 10 20 gives 14  -- clock 2: 1
     ∷ Step.Invoke 14 2 1 6 650 gives 0  -- 2
     ∷ Step.Deliver 0 gives 0  -- clock 1: 3
-    ∷ Step.Prepare 14 gives 1  -- clock 2: 3
+    ∷ Step.Deliver 0 gives 0  -- clock 2: 4
+    ∷ Step.Prepare 14 gives 1  -- 5
     ∷ []
 
 abbrev pub sweptUnasked : List Line
@@ -194,10 +206,11 @@ sixteenSwept =
     beginsUpTo 16  -- clock 2: 1 to 16
     ++ (Step.Invoke 15 2 1 11 1100 gives 0  -- 17
     ∷ Step.Deliver 0 gives 0  -- 18
-    ∷ Step.Tick 2 100 gives 118
-    ∷ Step.Sweep 2 gives 16  -- 119
+    ∷ Step.Deliver 0 gives 0  -- 19
+    ∷ Step.Tick 2 100 gives 119
+    ∷ Step.Sweep 2 gives 16  -- 120
     ∷ Step.Retire 0 gives 0
-    ∷ Step.Begin 2 0 200 210 gives 16  -- 120
+    ∷ Step.Begin 2 0 200 210 gives 16  -- 121
     ∷ [])
 
 -- home 6, slot 1: it is aborted, and its visit at station 3, which has not heard of it, calls on to station 0
@@ -206,26 +219,28 @@ calledUnaware =
     Step.Begin 6 1 60 70 gives 1  -- clock 6: 1
     ∷ Step.Invoke 1 6 0 12 0 gives 0  -- 2
     ∷ Step.Deliver 0 gives 0  -- clock 3: 3
-    ∷ Step.Abort 1 gives 0  -- clock 6: 3
+    ∷ Step.Deliver 0 gives 0  -- clock 6: 4
+    ∷ Step.Abort 1 gives 0  -- 5
     ∷ Step.Invoke 1 3 1 0 450 gives 0  -- clock 3: 4
     ∷ Step.Deliver 0 gives 0  -- clock 0: 5
+    ∷ Step.Deliver 0 gives 0  -- clock 3: 6
     ∷ []
 
 -- the terminate waits for station 0 too, and then lets it be swept
 abbrev pub unawareSwept : List Line
 unawareSwept =
-    Step.Terminate 1 gives 1  -- clock 6: 4
-    ∷ Step.Ask 1 3 gives 0  -- 5
-    ∷ Step.Deliver 0 gives 0  -- clock 3: 6
-    ∷ Step.Deliver 0 gives 0  -- clock 6: 7
+    Step.Terminate 1 gives 1  -- clock 6: 6
+    ∷ Step.Ask 1 3 gives 0  -- 7
+    ∷ Step.Deliver 0 gives 0  -- clock 3: 8
+    ∷ Step.Deliver 0 gives 0  -- clock 6: 9
     ∷ Step.Close 1 refusedBy 12
-    ∷ Step.Ask 1 0 gives 0  -- 8
-    ∷ Step.Deliver 0 gives 0  -- clock 0: 9
-    ∷ Step.Deliver 0 gives 0  -- clock 6: 10
-    ∷ Step.Close 1 gives 3  -- 11; the largest Q is 9, of station 0
-    ∷ Step.Tell 1 0 gives 0  -- 12
-    ∷ Step.Deliver 0 gives 0  -- clock 0: 13
-    ∷ Step.Sweep 0 gives 1  -- 14
+    ∷ Step.Ask 1 0 gives 0  -- 10
+    ∷ Step.Deliver 0 gives 0  -- clock 0: 11
+    ∷ Step.Deliver 0 gives 0  -- clock 6: 12
+    ∷ Step.Close 1 gives 3  -- 13; the largest Q is 11, of station 0
+    ∷ Step.Tell 1 0 gives 0  -- 14
+    ∷ Step.Deliver 0 gives 0  -- clock 0: 15
+    ∷ Step.Sweep 0 gives 1  -- 16
     ∷ []
 
 abbrev pub undoneRows : List Row
@@ -233,22 +248,22 @@ undoneRows =
     -- an abort: two writes over a committed width are undone, and another passage reads that width
     lines
     (firstWidth ++ writesUndone ++ widthReadBack)
-    (clock 7 14 ∷ clock 6 11 ∷ width 31 3210 ∷ holder 31 (Holder.Slot 3) ∷ before 31 3210 ∷ status 4 Status.Aborted
+    (clock 7 22 ∷ clock 6 18 ∷ width 31 3210 ∷ holder 31 (Holder.Slot 3) ∷ before 31 3210 ∷ status 4 Status.Aborted
     ∷ round 4 1 Phase.Two
-    ∷ visit 6 4 4 8 1 0
+    ∷ visit 6 4 12 15 1 0
     ∷ unvisited 7 4
     ∷ status 3 Status.Active
     ∷ [])
     -- no sweep takes a prepared visit; a terminate takes the mark off
     ∷ lines promiseLetOff
-    (clock 2 408 ∷ clock 5 411 ∷ width 10 0 ∷ holder 10 Holder.Nobody ∷ before 10 0 ∷ generation 1 1 ∷ mail 0 0 ∷ [])
+    (clock 2 410 ∷ clock 5 413 ∷ width 10 0 ∷ holder 10 Holder.Nobody ∷ before 10 0 ∷ generation 1 1 ∷ mail 0 0 ∷ [])
     ∷ []
 
 abbrev pub sweepRows : List Row
 sweepRows =
     -- a sweep of two visits
     lines (fourVisits ++ twoSwept)
-    (clock 6 2000065 ∷ clock 0 1000064 ∷ width 24 0 ∷ holder 24 Holder.Nobody ∷ width 25 0 ∷ holder 25 Holder.Nobody
+    (clock 6 2000068 ∷ clock 0 1000065 ∷ width 24 0 ∷ holder 24 Holder.Nobody ∷ width 25 0 ∷ holder 25 Holder.Nobody
     ∷ status 0 Status.Free
     ∷ generation 0 1
     ∷ status 11 Status.Aborted
@@ -257,18 +272,18 @@ sweepRows =
     ∷ holder 3 (Holder.Slot 13)
     ∷ [])
     -- a sweep away from home
-    ∷ lines sweptAway (clock 2 5 ∷ clock 4 204 ∷ status 9 Status.Active ∷ width 18 0 ∷ unvisited 4 9 ∷ [])
+    ∷ lines sweptAway (clock 2 7 ∷ clock 4 204 ∷ status 9 Status.Active ∷ width 18 0 ∷ unvisited 4 9 ∷ [])
     -- a sweep at home, before the close
-    ∷ lines homeSwept (clock 6 48 ∷ up 6 0 ∷ status 1 Status.Free ∷ generation 1 1 ∷ width 27 0 ∷ [])
+    ∷ lines homeSwept (clock 6 49 ∷ up 6 0 ∷ status 1 Status.Free ∷ generation 1 1 ∷ width 27 0 ∷ [])
     -- an unprepared visit of a committing passage
     ∷ lines (unasked ++ sweptUnasked)
-    (clock 1 54 ∷ clock 2 3 ∷ status 14 Status.Committing ∷ round 14 1 Phase.One ∷ unvisited 1 14 ∷ visit 2 14 3 20 1 0 ∷ prepared 2 14 1
+    (clock 1 54 ∷ clock 2 5 ∷ status 14 Status.Committing ∷ round 14 1 Phase.One ∷ unvisited 1 14 ∷ visit 2 14 5 20 1 0 ∷ prepared 2 14 1
     ∷ width 6 0
     ∷ holder 6 Holder.Nobody
     ∷ [])
-    -- and of one that is aborted after its prepare, at clock 4
+    -- and of one that is aborted after its prepare, at clock 6
     ∷ lines (unasked ++ (Step.Abort 14 gives 0 ∷ []) ++ sweptUnasked)
-    (clock 1 54 ∷ clock 2 4 ∷ status 14 Status.Aborted ∷ round 14 1 Phase.None ∷ unvisited 1 14 ∷ visit 2 14 3 20 1 0 ∷ prepared 2 14 0
+    (clock 1 54 ∷ clock 2 6 ∷ status 14 Status.Aborted ∷ round 14 1 Phase.None ∷ unvisited 1 14 ∷ visit 2 14 5 20 1 0 ∷ prepared 2 14 0
     ∷ width 6 0
     ∷ holder 6 Holder.Nobody
     ∷ [])
@@ -284,7 +299,7 @@ releaseRows =
     (clock 1 103 ∷ status 15 Status.Aborted ∷ round 15 1 Phase.None ∷ unvisited 1 15 ∷ [])
     -- a sweep of sixteen visits
     ∷ lines sixteenSwept
-    (clock 2 120 ∷ status 0 Status.Active ∷ generation 0 1 ∷ status 1 Status.Aborted ∷ status 8 Status.Aborted ∷ status 15 Status.Aborted
+    (clock 2 121 ∷ status 0 Status.Active ∷ generation 0 1 ∷ status 1 Status.Aborted ∷ status 8 Status.Aborted ∷ status 15 Status.Aborted
     ∷ unvisited 2 1
     ∷ unvisited 2 15
     ∷ width 11 0
@@ -292,14 +307,14 @@ releaseRows =
     ∷ [])
     -- a call of an aborted passage makes a visit, and its terminate finds it
     ∷ lines (calledUnaware ++ unawareSwept)
-    (clock 6 12 ∷ clock 3 6 ∷ clock 0 14 ∷ status 1 Status.Aborted ∷ round 1 1 Phase.Two ∷ visit 6 1 3 9 1 0 ∷ visit 3 1 6 70 1 1
+    (clock 6 14 ∷ clock 3 8 ∷ clock 0 16 ∷ status 1 Status.Aborted ∷ round 1 1 Phase.Two ∷ visit 6 1 5 11 1 0 ∷ visit 3 1 8 70 1 1
     ∷ unvisited 0 1
     ∷ width 0 0
     ∷ holder 0 Holder.Nobody
     ∷ [])
     ∷ []
 
--- every undoing is as document 01 says
+-- every undoing is as the two documents say
 pub undone-hold : map found undoneRows ≡ map wanted undoneRows
 unfolding found wanted
 undone-hold = refl

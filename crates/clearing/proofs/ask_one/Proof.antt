@@ -5,9 +5,7 @@ use Rattle.clearing.proofs.ask_one.Tie as tie
 
 returns : tie.Need-returns
 unfolding askOne
-returns c = rw (c .then-make3 .ensures, c .before .then-make2 .ensures, c .before .before .mail-in .ensures, c .before .before .before .then-make .ensures)
+returns c = rw (c .there-and-back .ensures)
 
 pub ask-one-spec : {M : Type 1} → statement M
-ask-one-spec =
-    tie.close
-    (tie.spec (λ c κs. search needs) (λ c κs. search needs) (λ c κs. search needs) (λ c κs. search needs) returns)
+ask-one-spec = tie.close (tie.spec (λ c κs. search needs) returns)

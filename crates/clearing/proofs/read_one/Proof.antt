@@ -5,8 +5,7 @@ use Rattle.clearing.proofs.read_one.Tie as tie
 
 returns : tie.Need-returns
 unfolding readOne
-returns c = rw (c .then-make2 .ensures, c .before .mail-in .ensures, c .before .before .then-make .ensures)
+returns c = rw (c .there-and-back .ensures)
 
 pub read-one-spec : {M : Type 1} → statement M
-read-one-spec =
-    tie.close (tie.spec (λ c κs. search needs) (λ c κs. search needs) (λ c κs. search needs) returns)
+read-one-spec = tie.close (tie.spec (λ c κs. search needs) returns)

@@ -108,9 +108,9 @@ begun-moved {w = w} (Move.Opens kind from home was e x i z) u y = rw e (begun-op
 begun-moved {w = w} (Move.Closes home one closed e x i z fits) u y = rw e (begun-closed (w .passage .round .kind) _ (w .passage .status) y)
 begun-moved (Move.Aborts runs e x i z) u y = rw e
 begun-moved (Move.Receives call body at e x early i z) u y = rw e y
-begun-moved (Move.Replies n asked body e was live below x i silent reply uncalled) u y = rw e y
+begun-moved (Move.Answers n asked body e was live below x i silent back uncalled) u y = rw e y
 begun-moved (Move.Hears n told body e was x i z) u y = rw e y
-begun-moved (Move.Collects n r q body number at e x i stamp z) u y = rw e y
+begun-moved (Move.Keeps n r q body number at e x i stamp z) u y = rw e y
 
 begun-aborted : (b : Bool) (p : Passage) → hasBegun (p .status) ≡ true → hasBegun (cond b (abortedPassage p) p .status) ≡ true
 begun-aborted b p y = cond-keeps (λ (x : Passage). hasBegun (x .status) ≡ true) b (abortedPassage p) p refl y

@@ -106,9 +106,9 @@ module _ (s : Status) (over : isOver s ≡ true) where
       ∙ closing-over (w .passage) (largestQuiesce (w .passage .round)) o x one
   over-moved o x (Move.Aborts runs e y i z) u = absurd (not-running (ap isRunning (sym x) ∙ runs))
   over-moved o x (Move.Receives call body at e y early i z) u = ap (λ (q : Passage). q .status) e ∙ x
-  over-moved o x (Move.Replies n asked body e was live below y i silent reply uncalled) u = ap (λ (q : Passage). q .status) e ∙ x
+  over-moved o x (Move.Answers n asked body e was live below y i silent back uncalled) u = ap (λ (q : Passage). q .status) e ∙ x
   over-moved o x (Move.Hears n told body e was y i z) u = ap (λ (q : Passage). q .status) e ∙ x
-  over-moved o x (Move.Collects n r q body number at e y i stamp z) u = ap (λ (q : Passage). q .status) e ∙ x
+  over-moved o x (Move.Keeps n r q body number at e y i stamp z) u = ap (λ (q : Passage). q .status) e ∙ x
 
   over-turned : {w : View} {a : ℕ} {p : Passage} {v : Visit} {trip : Trip} → w .passage .status ≡ s → Turn w a p v trip → p .status ≡ s
   over-turned x (Turn.Stays trip e y) = ap (λ (q : Passage). q .status) e ∙ x
@@ -200,9 +200,9 @@ committed-moved {w = w} n (Move.Closes home one closed e y i z fits) x =
     }
 committed-moved n (Move.Aborts runs e y i z) x = absurd (aborted-not-committed (ap (λ (q : Passage). q .status) (sym e) ∙ x))
 committed-moved n (Move.Receives call body at e y early i z) x = absurd (n (ap (λ (q : Passage). q .status) (sym e) ∙ x))
-committed-moved n (Move.Replies b asked body e was live below y i silent reply uncalled) x = absurd (n (ap (λ (q : Passage). q .status) (sym e) ∙ x))
+committed-moved n (Move.Answers b asked body e was live below y i silent back uncalled) x = absurd (n (ap (λ (q : Passage). q .status) (sym e) ∙ x))
 committed-moved n (Move.Hears b told body e was y i z) x = absurd (n (ap (λ (q : Passage). q .status) (sym e) ∙ x))
-committed-moved n (Move.Collects b r q body number at e y i stamp z) x = absurd (n (ap (λ (q : Passage). q .status) (sym e) ∙ x))
+committed-moved n (Move.Keeps b r q body number at e y i stamp z) x = absurd (n (ap (λ (q : Passage). q .status) (sym e) ∙ x))
 
 committed-turned :
     {w : View} {a : ℕ} {p : Passage} {v : Visit} {trip : Trip} → Turn w a p v trip → p .status ≡ Status.Committed

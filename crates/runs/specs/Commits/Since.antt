@@ -63,9 +63,9 @@ used-moved {w = w} (Move.Opens kind from home was e x i y) g u = rw e (used-aske
 used-moved {w = w} (Move.Closes home one closed e x i y fits) g u = rw e (used-told (roundTold (w .passage .round)) (w .passage .status) u)
 used-moved (Move.Aborts runs e x i y) g u = rw e
 used-moved (Move.Receives call body at e x early i y) g u = rw e u
-used-moved (Move.Replies n asked body e was live below x i silent reply uncalled) g u = rw e u
+used-moved (Move.Answers n asked body e was live below x i silent back uncalled) g u = rw e u
 used-moved (Move.Hears n told body e was x i y) g u = rw e u
-used-moved (Move.Collects n r q body number at e x i stamp y) g u = rw e u
+used-moved (Move.Keeps n r q body number at e x i stamp y) g u = rw e u
 
 pub used-turned :
     {w : View} {a : ℕ} {p : Passage} {v : Visit} {trip : Trip} → Turn w a p v trip → isFree (w .passage .status) ≡ false

@@ -126,9 +126,9 @@ module _ (w : View) (a k : ℕ) (p : Passage) (v : Visit) (l : Ledger) (h : Hold
   answered-moved (Move.Receives call body at e x early i z) committed =
       let tells = committed-tells (w .passage) (o .round) (ap (λ (q : Passage). q .status) (sym e) ∙ committed) in
       absurd (h .passage .closed-quiet (tells .1) (rw (tells .0)) .mail k .call call body)
-  answered-moved (Move.Replies n asked body e was live below x i silent reply uncalled) committed = answered-stays e (λ there. was) committed
+  answered-moved (Move.Answers n asked body e was live below x i silent back uncalled) committed = answered-stays e (λ there. was) committed
   answered-moved (Move.Hears n told body e was x i z) committed = answered-stays e (λ there. was) committed
-  answered-moved (Move.Collects n r q body number at e x i stamp z) committed =
+  answered-moved (Move.Keeps n r q body number at e x i stamp z) committed =
       let from : w .mail k .source < 8 = h .posted k (ap isEmpty body) .1 in
       let before : w .passage .status ≡ Status.Committed = ap (λ (u : Passage). u .status) (sym e) ∙ committed in
       put-all (w .visit) a v
@@ -256,7 +256,7 @@ alive-moved {w = w} {a = a} {c = c} {p = p} {v = v} l h y none (Move.Aborts runs
     alive-struck w a p v y (ap (λ (q : Passage). q .home) e) true c (w .visit a .dead) x
 alive-moved {w = w} {a = a} {p = p} {v = v} l h y none (Move.Receives call body at e x early i z) =
     alive-called w a p v y (ap (λ (q : Passage). q .home) e) call x
-alive-moved {w = w} {a = a} {c = c} {p = p} {v = v} l h y none (Move.Replies n asked body e was live below x i silent reply uncalled) =
+alive-moved {w = w} {a = a} {c = c} {p = p} {v = v} l h y none (Move.Answers n asked body e was live below x i silent back uncalled) =
     alive-at w a p v y (ap (λ (q : Passage). q .home) e)
     (λ d t m. ap (λ (u : Visit). u .dead) x ∙ alive-asked asked n c (w .visit a) live (ap (λ (u : Visit). u .prepared) (sym x) ∙ m))
 alive-moved {w = w} {a = a} {p = p} {v = v} l h y none (Move.Hears n told body e was x i z) =
@@ -264,7 +264,7 @@ alive-moved {w = w} {a = a} {p = p} {v = v} l h y none (Move.Hears n told body e
     (λ d t m.
     let marks = marks-told told (w .visit a) (ap (λ (u : Visit). u .there) (sym x) ∙ t) in
     ap (λ (u : Visit). u .dead) x ∙ marks .1 ∙ y a d was (sym (marks .0) ∙ ap (λ (u : Visit). u .prepared) (sym x) ∙ m))
-alive-moved {w = w} {a = a} {p = p} {v = v} l h y none (Move.Collects n r q body number at e x i stamp z) =
+alive-moved {w = w} {a = a} {p = p} {v = v} l h y none (Move.Keeps n r q body number at e x i stamp z) =
     alive-same w a p v y (ap (λ (q : Passage). q .home) e) x
 
 home-after : (b : Bool) (p : Passage) → cond b (abortedPassage p) p .home ≡ p .home

@@ -345,16 +345,16 @@ module _ (w : View) (l : Ledger) (a k c source : ℕ) (v : Visit) (m : Message) 
       (ap (λ (z : Visit). z .there) x ∙ made-there (either (w .visit a .there)))
       (ap (λ (z : Visit). z .round) x)
       (ap (λ (z : Visit). z .prepared) x))
-      (sent-empty p y)
+      (sent-plain p (y .plain))
     where
       made-there : (w .visit a .there ≡ true) ⊎ (w .visit a .there ≡ false) → calledVisit call (w .visit a) .there ≡ true
       made-there (inl q) = when-true (λ (z : Visit). z .there ≡ true) (w .visit a .there) (w .visit a) _ q q
       made-there (inr q) = when-false (λ (z : Visit). z .there ≡ true) (w .visit a .there) (w .visit a) _ q refl
-  vow-moved p none (Move.Replies n asked body e was live below x i silent reply uncalled) =
+  vow-moved p none (Move.Answers n asked body e was live below x i silent back uncalled) =
       vow-stays p (as-it-was p e) (here-asked n asked body was below x)
-      (record { word = λ y. absurd (true≢false (sym y ∙ silent)); answers = λ y. reply y .1 ∙ ap (λ (z : Passage). z .home) (sym e) })
+      (record { word = λ y. absurd (true≢false (sym y ∙ silent)); answers = λ y. back y .1 ∙ ap (λ (z : Passage). z .home) (sym e) })
   vow-moved p none (Move.Hears n told body e was x i y) = vow-stays p (as-it-was p e) (here-told n told body x) (sent-empty p y)
-  vow-moved p none (Move.Collects n r q body number at e x i stamp y) =
+  vow-moved p none (Move.Keeps n r q body number at e x i stamp y) =
       vow-stays p
       (subst (SamePassage (w .passage)) (sym e) (record { status = refl; home = refl; number = refl; kind = refl; phase = refl }))
       (here-same x)

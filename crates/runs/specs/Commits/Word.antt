@@ -91,6 +91,7 @@ module _ (t : Tables) (ls : ℕ → Ledger) (k : Pledged t ls) (p : ℕ) (slot :
       full (Body.PhaseOne n a) e = refl
       full (Body.PhaseTwo n d) e = refl
       full (Body.Answer n r q) e = refl
+      full (Body.Reply v) e = refl
 
   closed-commits :
       (h : ℕ) → slotOf h ≡ p → ClosesCommit (passageAt t p) → isAccepted (stepOf t (Step.Close h) .answer) ≡ true

@@ -6,8 +6,8 @@ use mathlib.Core.Logic.{⊎-elim}
 use mathlib.Core.Bool.{Bool, true, cond}
 use mathlib.Core.List.{List, [], _∷_, _++_}
 use Rattle.rules.specs.LoopsLaws.{either, cond-keeps}
-use Rattle.rules.specs.Tables.{objectSite}
-use Rattle.rules.specs.Answers.{isAccepted, answerValue}
+use Rattle.rules.specs.Tables.{objectAt, objectSite}
+use Rattle.rules.specs.Answers.{isAccepted}
 use Rattle.rules.specs.RangesLaws.{placed-places}
 use Rattle.rules.specs.Machine.{lookOf, placesOf, headOf, stepOf}
 use Rattle.rules.specs.Runs.{Started, actsAtSite, runOf}
@@ -70,7 +70,7 @@ module _ (t : Tables) (step : Step) (acts : actsAtSite step ≡ true) where
       (tookOf t step (placesOf t (lookOf step) .slot) (c .object))
       _
       (if-not-in-place t step (isHolding t (placesOf t (lookOf step) .slot) (c .object)) _ (event-in-place EventKind.Took _ (c .object) p k s))
-      (event-in-place (EventKind.Operated (c .write) (answerValue (stepOf t step .answer)) (c .value)) _ (c .object) p k s, tt)
+      (event-in-place (EventKind.Operated (c .write) (objectAt t (c .object) .value) (c .value)) _ (c .object) p k s, tt)
 
 -- ---- every step
 

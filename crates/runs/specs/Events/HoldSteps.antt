@@ -21,7 +21,7 @@ use Rattle.rules.specs.PartsLaws.{take-one, freed-lets-go, restored-lets-go, le
 use Rattle.rules.specs.Stations.{tickOf, sweepOf, crashOf, recoverOf, isSwept, sweptSlot}
 use Rattle.rules.specs.Passages.{beginOf, abortOf, retireOf}
 use Rattle.rules.specs.Rounds.{refreshOf, terminateOf, prepareOf, openOf, askOf, closeOf, tellOf, closed, roundTold}
-use Rattle.rules.specs.Calls.{mailClock, mailSlot, calledObject, called, invokeOf, emptyOf, deliverCallOf, deliverPhaseOneOf, deliverPhaseTwoOf, deliverAnswerOf, deliverBodyOf, dropOf}
+use Rattle.rules.specs.Calls.{mailClock, mailSlot, calledObject, called, invokeOf, emptyOf, deliverCallOf, deliverPhaseOneOf, deliverPhaseTwoOf, deliverAnswerOf, deliverReplyOf, deliverBodyOf, dropOf}
 use Rattle.rules.specs.Machine.{lookOf, placesOf, seenOf, decideOf}
 use Rattle.rules.specs.Record.{flatOf, isStep}
 use Rattle.rules.specs.Runs.{actsAtSite}
@@ -164,7 +164,7 @@ module _ (t : Tables) (m : ℕ) (held : Held t) where
   delivered-did :
       (body : Body) → messageAt t (At .message) .body ≡ body → isAccepted (deliverBodyOf body m (seenOf t At) .answer) ≡ true
       → Did t (Step.Deliver m) (deliverBodyOf body m (seenOf t At) .left)
-  unfolding deliveredOf placesOf deliverBodyOf emptyOf deliverCallOf deliverPhaseOneOf deliverPhaseTwoOf deliverAnswerOf
+  unfolding deliveredOf placesOf deliverBodyOf emptyOf deliverCallOf deliverPhaseOneOf deliverPhaseTwoOf deliverAnswerOf deliverReplyOf
   delivered-did Body.Empty e a =
       let-go (record { acts = refl; trip = tt; delivers = rw e; bank = rw e; lets-go = settled-lets-go _ _ (seenOf t At) _ (λ i l r h. h) })
   delivered-did (Body.Call c) e a =
@@ -196,6 +196,8 @@ module _ (t : Tables) (m : ℕ) (held : Held t) where
         lets-go = settled-lets-go _ _ (seenOf t At) _ (told-lets-go told (mailSlot (seenOf t At)) (bankAt t (At .bank)));
       })
   delivered-did (Body.Answer n r q) e a =
+      let-go (record { acts = refl; trip = tt; delivers = rw e; bank = rw e; lets-go = settled-lets-go _ _ (seenOf t At) _ (λ i l r h. h) })
+  delivered-did (Body.Reply value) e a =
       let-go (record { acts = refl; trip = tt; delivers = rw e; bank = rw e; lets-go = settled-lets-go _ _ (seenOf t At) _ (λ i l r h. h) })
 
 -- a step of a site that is no delivery and leaves the objects

@@ -67,7 +67,7 @@ isOf p u k e = eqb (e .event .slot) p && eqb (e .used) u && eqb (e .event .objec
 -- is the object held once this has happened to it, if it was held before?
 abbrev pub holdAfter : EventKind → Bool → Bool
 holdAfter EventKind.Took held = true
-holdAfter (EventKind.Operated write answered written) held = held
+holdAfter (EventKind.Operated write found written) held = held
 holdAfter EventKind.Freed held = false
 
 unfoldable pub heldSince : List PassageEvent → ℕ → ℕ → ℕ → Bool → Bool
@@ -82,7 +82,7 @@ heldIn es p u k = heldSince es p u k false
 
 abbrev pub frees : EventKind → Bool
 frees EventKind.Took = false
-frees (EventKind.Operated write answered written) = false
+frees (EventKind.Operated write found written) = false
 frees EventKind.Freed = true
 
 unfoldable pub isFreedIn : List PassageEvent → ℕ → ℕ → ℕ → Bool

@@ -39,7 +39,7 @@ module _ (p u k : ℕ) where
     where
       stays : (b : Bool) (kind : EventKind) → (b && frees kind) ≡ false → cond b (holdAfter kind true) true ≡ true
       stays true EventKind.Took f = refl
-      stays true (EventKind.Operated write answered written) f = refl
+      stays true (EventKind.Operated write found written) f = refl
       stays true EventKind.Freed f = absurd (true≢false f)
       stays false kind f = refl
 
@@ -71,7 +71,7 @@ module _ (p u k : ℕ) where
           → ((held ≡ true) × (((isOf p u k x && frees (x .event .kind)) || isFreedIn xs p u k) ≡ false)) ⊎ TakenAndNotFreed (x ∷ xs) p u k
       by-event true b EventKind.Took kind h f =
           inr (record { before = []; taking = x; since = xs; all = refl; of = b; took = kind; not-freed = f })
-      by-event true b (EventKind.Operated write answered written) kind h f = inl (h, rw (b, kind) f)
+      by-event true b (EventKind.Operated write found written) kind h f = inl (h, rw (b, kind) f)
       by-event true b EventKind.Freed kind h f = absurd (false≢true h)
       by-event false b kind q h f = inl (h, rw b f)
 

@@ -8,10 +8,10 @@ use lib.Dec.{eqb, leb}
 use borrow.Author.Tests.{leb-false, eqb-true, ne-eqb}
 use Rattle.rules.specs.LoopsLaws.{or-left, or-right, not-false}
 use Rattle.rules.specs.Tables.{siteAt, passageAt, visitAt, messageAt, noMessage, slotOf}
-use Rattle.rules.specs.Parts.{isFree, isPhaseOne, isEmpty, countReceived, withStatus, withRound, withAnswer, askedVisit, toldVisit, answerMessage, asksLife, tellsLife, askedStatus, toldStatus}
+use Rattle.rules.specs.Parts.{isFree, isPhaseOne, isEmpty, clockTo, countReceived, withStatus, withRound, withAnswer, askedVisit, toldVisit, plainMessage, answerMessage, asksLife, tellsLife, askedStatus, toldStatus}
 use Rattle.rules.specs.Ranges.{inRange}
 use Rattle.rules.specs.Answers.{isAccepted}
-use Rattle.rules.specs.Calls.{mailClock, calledVisit, callChecks, callDone, roundChecks, atHome, replyOf, phaseOneDone, phaseTwoDone, answerChecks, answerDone, emptyOf, deliverCallOf, deliverPhaseOneOf, deliverPhaseTwoOf, deliverAnswerOf, deliverBodyOf, deliverOf}
+use Rattle.rules.specs.Calls.{mailClock, calledVisit, calledObject, callChecks, replyTo, callDone, replyDone, roundChecks, atHome, answerBack, phaseOneDone, phaseTwoDone, answerChecks, answerDone, emptyOf, deliverCallOf, deliverPhaseOneOf, deliverPhaseTwoOf, deliverAnswerOf, deliverReplyOf, deliverBodyOf, deliverOf}
 use Rattle.rules.specs.Machine.{lookOf, placesOf, seenOf}
 use Rattle.rules.specs.AnswersLaws.{Fine, accepted-fine}
 use Rattle.rules.specs.RangesLaws.{seen-in-range, placed-places}
@@ -20,8 +20,9 @@ use Rattle.runs.specs.Types.{Passage, Visit, Call, Asked, Told, Body, Me
 use Rattle.runs.specs.Walk.Plain.{when-false}
 use Rattle.runs.specs.Times.View.{View, Ledger, mailOf, viewOf}
 use Rattle.runs.specs.Times.Clauses.{sentFigures}
-use Rattle.runs.specs.Times.Store.{Fitting, fitting-after-settled, own-mail, own-body, reply-own}
+use Rattle.runs.specs.Times.Store.{Fitting, fitting-after-settled, own-mail, own-body, back-own}
 use Rattle.runs.specs.Fits.Shared.{not-free}
+use Rattle.runs.specs.Fits.Stations.{fitting-after-emptied}
 use Rattle.runs.specs.Kept.Deliver.{LandedAt, call-lands, one-lands, one-away, two-lands, two-away, answer-lands}
 
 -- ---- a delivery at these places: the message's own slot and its destination
@@ -69,14 +70,17 @@ module _ (t : Tables) (at : Places) (m : ℕ) (own : slotOf (messageAt t (at .me
   call-fits-at c body fine =
       record {
         clock = clock-on;
-        mail = inr (inr own, inl refl);
+        mail = inr (inr own, inr own);
         own =
             λ l h.
             subst
+            (λ (x : Message). Left l (passageAt t (at .slot)) (countReceived (calledVisit c (visitAt t (at .site) (at .slot)))) x (letter .source))
+            (sym (own-mail (at .slot) (replyTo c clock seen) refl own))
+            (subst
             (λ (x : Message).
             Left l (passageAt t (at .slot))
             (countReceived (calledVisit c (visitAt t (at .site) (at .slot))))
-            noMessage
+            (plainMessage (Body.Reply (calledObject c seen .value)) (x .destination) (x .source) (x .handle) clock)
             (x .source))
             (letter-seen (Body.Call c) body refl)
             (call-lands
@@ -90,8 +94,13 @@ module _ (t : Tables) (at : Places) (m : ℕ) (own : slotOf (messageAt t (at .me
             c
             (letter-body (Body.Call c) body refl)
             (letter-here (Body.Call c) body refl)
-            (leb-false _ _ (or-left _ (calledVisit c (visitAt t (at .site) (at .slot)) .dead) (fine .early))));
+            (calledObject c seen .value)
+            (leb-false _ _ (or-left _ (calledVisit c (visitAt t (at .site) (at .slot)) .dead) (fine .early)))));
       }
+
+  -- a reply is gone, and the clock has moved
+  pub reply-fits-at : (value : ℕ) → Fitting t at (replyDone m value seen .left)
+  reply-fits-at value = fitting-after-emptied t at (clockTo (siteAt t (at .site)) clock) own clock-on
 
   pub phase-one-fits-at :
       (n : ℕ) (asked : Asked) → letter .body ≡ Body.PhaseOne n asked
@@ -100,7 +109,7 @@ module _ (t : Tables) (at : Places) (m : ℕ) (own : slotOf (messageAt t (at .me
   phase-one-fits-at n asked body fine =
       record {
         clock = clock-on;
-        mail = inr (inr own, reply-own (at .slot) clock asks′ seen own);
+        mail = inr (inr own, back-own (at .slot) clock asks′ seen own);
         own =
             λ l h.
             let away : atHome seen ≡ false =
@@ -110,7 +119,7 @@ module _ (t : Tables) (at : Places) (m : ℕ) (own : slotOf (messageAt t (at .me
             refl
             (one-away view l (at .site) (at .message) clock h clock-on n asked (letter-body (Body.PhaseOne n asked) body refl) there below kin) in
             when-false
-            (λ (p : Passage). Left l p asks′ (mailOf (at .slot) (replyOf asks′ clock seen)) (letter .source))
+            (λ (p : Passage). Left l p asks′ (mailOf (at .slot) (answerBack asks′ clock seen)) (letter .source))
             (atHome seen)
             (withStatus (passageAt t (at .slot)) (askedStatus asked (passageAt t (at .slot) .status)))
             (passageAt t (at .slot))
@@ -119,19 +128,19 @@ module _ (t : Tables) (at : Places) (m : ℕ) (own : slotOf (messageAt t (at .me
             (λ (x : Message). Left l (passageAt t (at .slot)) asks′ (mailOf (at .slot) x) (letter .source))
             (atHome seen)
             noMessage
-            (reply (letter .destination))
+            (back (letter .destination))
             away
             (subst
             (λ (x : Message). Left l (passageAt t (at .slot)) asks′ x (letter .source))
-            (ap reply here ∙ sym (own-mail (at .slot) (reply (letter .destination)) refl own))
+            (ap back here ∙ sym (own-mail (at .slot) (back (letter .destination)) refl own))
             (one-lands view l (at .site) (at .message) clock h clock-on n asked (letter-body (Body.PhaseOne n asked) body refl) there below kin (letter .handle) (letter .source))));
       }
     where
       asks′ : Visit
       asks′ = askedVisit asked n clock (visitAt t (at .site) (at .slot))
 
-      reply : ℕ → Message
-      reply source = answerMessage asks′ source (passageAt t (at .slot) .home) (letter .handle) clock
+      back : ℕ → Message
+      back source = answerMessage asks′ source (passageAt t (at .slot) .home) (letter .handle) clock
 
       there : visitAt t (at .site) (at .slot) .there ≡ true
       there = not-false _ (fine .there)
@@ -290,7 +299,7 @@ module _ (t : Tables) (m : ℕ) (range : inRange t ≡ true) where
       (b : Body) → seenOf t (deliverAt t m) .message .body ≡ b
       → isAccepted (deliverBodyOf b m (seenOf t (deliverAt t m)) .answer) ≡ true
       → Fitting t (deliverAt t m) (deliverBodyOf b m (seenOf t (deliverAt t m)) .left)
-  unfolding deliverBodyOf emptyOf deliverCallOf deliverPhaseOneOf deliverPhaseTwoOf deliverAnswerOf
+  unfolding deliverBodyOf emptyOf deliverCallOf deliverPhaseOneOf deliverPhaseTwoOf deliverAnswerOf deliverReplyOf
   fitting-after-body Body.Empty e y = absurd (true≢false (sym (ap isEmpty e) ∙ accepted-fine _ 0 y .found))
   fitting-after-body (Body.Call c) e y =
       fitting-after-settled t (deliverAt t m) (callDone m c (seenOf t (deliverAt t m))) y (fitting-after-deliver-call c e (accepted-fine _ _ y))
@@ -300,6 +309,9 @@ module _ (t : Tables) (m : ℕ) (range : inRange t ≡ true) where
       fitting-after-settled t (deliverAt t m) (phaseTwoDone m n told (seenOf t (deliverAt t m))) y (fitting-after-deliver-phase-two n told e (accepted-fine _ _ y))
   fitting-after-body (Body.Answer n received q) e y =
       fitting-after-settled t (deliverAt t m) (answerDone m n received q (seenOf t (deliverAt t m))) y (fitting-after-deliver-answer n received q e (accepted-fine _ _ y))
+  fitting-after-body (Body.Reply value) e y =
+      fitting-after-settled t (deliverAt t m) (replyDone m value (seenOf t (deliverAt t m))) y
+      (reply-fits-at t (deliverAt t m) m deliver-own deliver-here deliver-in value)
 
   pub fitting-after-deliver :
       isAccepted (deliverOf m (seenOf t (deliverAt t m)) .answer) ≡ true

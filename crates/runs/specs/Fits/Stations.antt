@@ -7,9 +7,9 @@ use mathlib.Core.Bool.{Bool, true, false, cond, not, _&&_, _||_}
 use lib.Dec.{eqb}
 use borrow.Author.Tests.{leb-true}
 use Rattle.rules.specs.LoopsLaws.{either, and-left, and-right}
-use Rattle.rules.specs.Tables.{siteAt, passageAt, visitAt, messageAt, noVisit, slotOf}
+use Rattle.rules.specs.Tables.{siteAt, passageAt, visitAt, messageAt, noVisit, noMessage, slotOf}
 use Rattle.rules.specs.Parts.{isFree, isActive, abortedPassage, quieted, whereThere}
-use Rattle.rules.specs.Seen.{leftSite}
+use Rattle.rules.specs.Seen.{leftSite, leftMessage}
 use Rattle.rules.specs.Stations.{isSwept, sweptSlot, losesHome, crashedSlot}
 use Rattle.rules.specs.Calls.{lost}
 use Rattle.rules.specs.Machine.{seenOf, slotPlaces}
@@ -52,12 +52,13 @@ fitting-after-site t at site i =
 pub fitting-after-same : (t : Tables) (at : Places) → Fitting t at (seenOf t at)
 fitting-after-same t at = fitting-after-site t at (siteAt t (at .site)) (omega arith)
 
--- 12. drop: the message is lost
-pub fitting-after-lost :
-    (t : Tables) (at : Places) → slotOf (messageAt t (at .message) .handle) ≡ at .slot → Fitting t at (lost (seenOf t at))
-fitting-after-lost t at e =
+-- the message is gone, and the site's clock does not go back
+pub fitting-after-emptied :
+    (t : Tables) (at : Places) (site : Site) → slotOf (messageAt t (at .message) .handle) ≡ at .slot → siteAt t (at .site) .clock ≤ site .clock
+    → Fitting t at (leftMessage (leftSite (seenOf t at) site) noMessage)
+fitting-after-emptied t at site e i =
     record {
-      clock = omega arith;
+      clock = i;
       mail = inr (inr e, inl refl);
       own =
           λ l h.
@@ -66,13 +67,18 @@ fitting-after-lost t at e =
           l
           (at .site)
           (at .message)
-          (siteAt t (at .site) .clock)
+          (site .clock)
           (messageAt t (at .message) .source)
-          (mailOf (at .slot) (lost (seenOf t at) .message))
+          (mailOf (at .slot) noMessage)
           h
-          (omega arith)
+          i
           (inr refl);
     }
+
+-- 12. drop: the message is lost
+pub fitting-after-lost :
+    (t : Tables) (at : Places) → slotOf (messageAt t (at .message) .handle) ≡ at .slot → Fitting t at (lost (seenOf t at))
+fitting-after-lost t at e = fitting-after-emptied t at (siteAt t (at .site)) e (omega arith)
 
 -- ---- a passage that is aborted or stays
 

@@ -18,7 +18,7 @@ use Rattle.rules.specs.FineLaws.{call-fields}
 use Rattle.rules.specs.Parts.{nextClock, isHeldBy, isHeldByOther, freed, restored, eachOf, whereThere, askedVisit, toldVisit, toldObjects, askedOf, plainMessage}
 use Rattle.rules.specs.Seen.{leftSite}
 use Rattle.rules.specs.Rounds.{sentOut, roundTold, closed, openOf, closeOf}
-use Rattle.rules.specs.Calls.{callSite, mailClock, mailSlot, atHome, replyOf, askedAt, calledVisit, calledObject, called, invokeOf, emptyOf, deliverCallOf, deliverPhaseOneOf, deliverPhaseTwoOf, deliverAnswerOf, deliverBodyOf, lost, dropOf}
+use Rattle.rules.specs.Calls.{callSite, mailClock, mailSlot, atHome, answerBack, askedAt, calledVisit, calledObject, replyTo, called, invokeOf, emptyOf, deliverCallOf, deliverPhaseOneOf, deliverPhaseTwoOf, deliverAnswerOf, deliverReplyOf, deliverBodyOf, lost, dropOf}
 use Rattle.rules.specs.Stations.{isSwept, losesHome, crashedVisit, sweptSlot, crashedSlot}
 use Rattle.rules.specs.Passages.{beginOf, abortOf, retired, retireOf}
 use Rattle.rules.specs.Machine.{seenOf, bodyBank, turnSeen}
@@ -44,8 +44,8 @@ crashed-there : (homeless : Bool) (clock : ℕ) (v : Visit) → crashedVisit hom
 crashed-there homeless clock v = ⊎-elim (λ b. rw b) (λ b. rw b) (either (homeless || not (v .prepared)))
 
 -- an answer is no call
-reply-no-call : (v : Visit) (clock : ℕ) (seen : Seen) → isCall (replyOf v clock seen .body) ≡ false
-reply-no-call v clock seen = ⊎-elim (λ e. rw e) (λ e. rw e) (either (atHome seen))
+back-no-call : (v : Visit) (clock : ℕ) (seen : Seen) → isCall (answerBack v clock seen .body) ≡ false
+back-no-call v clock seen = ⊎-elim (λ e. rw e) (λ e. rw e) (either (atHome seen))
 
 module _ (t : Tables) (at : Places) (k : Held t) where
   -- the message that was seen
@@ -151,7 +151,7 @@ module _ (t : Tables) (at : Places) (k : Held t) where
             inl
             (taken-holder (mailSlot (seenOf t at)) (calledObject c (seenOf t at)) p c free e));
         visit = λ e. absurd (true≢false (sym there ∙ e));
-        calls = no-call noMessage refl;
+        calls = no-call (replyTo c clock (seenOf t at)) refl;
       }
     where
       there : calledVisit c (visitAt t (at .site) (at .slot)) .there ≡ true
@@ -224,7 +224,7 @@ module _ (t : Tables) (at : Places) (k : Held t) where
       (askedAt n asked clock (seenOf t at))
       refl
       (λ e. sym (asked-says asked n clock v .there) ∙ e)
-      (no-call (replyOf (askedVisit asked n clock v) clock (seenOf t at)) (reply-no-call (askedVisit asked n clock v) clock (seenOf t at)))
+      (no-call (answerBack (askedVisit asked n clock v) clock (seenOf t at)) (back-no-call (askedVisit asked n clock v) clock (seenOf t at)))
 
   -- by what the message slot holds
   pub held-after-deliver :
@@ -233,7 +233,7 @@ module _ (t : Tables) (at : Places) (k : Held t) where
       → at .site ≡ messageAt t (at .message) .destination % 8
       → at .bank ≡ bodyBank body (at .site)
       → KeepsHeld t at (deliverBodyOf body m (seenOf t at) .left)
-  unfolding deliverBodyOf emptyOf deliverCallOf deliverPhaseOneOf deliverPhaseTwoOf deliverAnswerOf
+  unfolding deliverBodyOf emptyOf deliverCallOf deliverPhaseOneOf deliverPhaseTwoOf deliverAnswerOf deliverReplyOf
   held-after-deliver Body.Empty m e s a b = held-after-settled _ _ _ (λ f. held-after-seen)
   held-after-deliver (Body.Call c) m e s a b =
       let y : messageAt t (at .message) .destination ≡ objectSite (c .object) = k .calls (at .message) c e .0 in
@@ -243,6 +243,8 @@ module _ (t : Tables) (at : Places) (k : Held t) where
   held-after-deliver (Body.PhaseTwo n told) m e s a b =
       held-after-settled _ _ _ (λ f. held-after-told told _ refl (rw s) b (no-call noMessage refl))
   held-after-deliver (Body.Answer n r q) m e s a b =
+      held-after-settled _ _ _ (λ f. held-after-same _ refl (λ y. y) (no-call noMessage refl))
+  held-after-deliver (Body.Reply value) m e s a b =
       held-after-settled _ _ _ (λ f. held-after-same _ refl (λ y. y) (no-call noMessage refl))
 
   -- one slot of a sweep: the visit that goes has let go

@@ -1,4 +1,4 @@
--- What a delivery leaves in its slot's view keeps the invariant: a call, a phase 1 and a phase 2 message, an answer. Assumes nothing.
+-- What a delivery leaves in its slot's view keeps the invariant: a call with its reply, a phase 1 and a phase 2 message, an answer. Assumes nothing.
 use Prim.Native.Nat.{ℕ, _<_, _≤_}
 use native.Mathlib.Omega.{arith}
 use mathlib.Core.Path.{_≡_, refl, sym, ap, _∙_, subst}
@@ -6,18 +6,19 @@ use mathlib.Core.Logic.{_≢_, ⊎-elim, _⊎_, inl, inr}
 use mathlib.Core.Bool.{Bool, true, false, cond, true≢false, false≢true}
 use Rattle.rules.specs.LoopsLaws.{either}
 use Rattle.rules.specs.Tables.{noVisit, noMessage}
-use Rattle.rules.specs.Parts.{isFree, isPhaseOne, newVisit, countReceived, withRound, withAnswer, askedVisit, toldVisit, answerMessage}
+use Rattle.rules.specs.Parts.{isFree, isPhaseOne, isEmpty, newVisit, countReceived, withRound, withAnswer, askedVisit, toldVisit, plainMessage, answerMessage}
 use Rattle.rules.specs.Calls.{calledVisit}
 use Rattle.runs.specs.Types.{Figures, Status, Passage, Visit, Call, Asked, Told, Body, Message}
 use Rattle.runs.specs.Walk.Plain.{when-true, when-false}
-use Rattle.runs.specs.Walk.Put.{put, put-same, put-all}
+use Rattle.runs.specs.Walk.Says.{bodyKind}
+use Rattle.runs.specs.Walk.Put.{put, put-same, put-all, put-again}
 use Rattle.runs.specs.Times.View.{View, Ledger, noLedger, ledgerNoted, relast, firstSeen}
 use Rattle.runs.specs.Times.Clauses.{Quiet, sentFigures, InAnswer, FigureFine, PhaseOneFine, LateFine, Holds}
 use Rattle.runs.specs.Times.ClausesLaws.{binding-no-refresh, late-says, terminate-says, prepare-says}
 use Rattle.runs.specs.Kept.Shrunk.{shrunk}
 use Rattle.runs.specs.Kept.Visit.{withVisit, withLast}
 use Rattle.runs.specs.Kept.Times.{asked-says, holds-after-asked, holds-after-told-refresh, holds-after-told-terminate}
-use Rattle.runs.specs.Kept.Mail.{withMail, holds-after-reply}
+use Rattle.runs.specs.Kept.Mail.{withMail, holds-after-back, holds-after-replied}
 use Rattle.runs.specs.Kept.Round.{holds-after-answer}
 use Rattle.runs.specs.Kept.Calls.{holds-after-received, never-twice, holds-after-made}
 use Rattle.runs.specs.Times.Store.{leftView, noted-there, noted-gone, noted-same}
@@ -96,10 +97,10 @@ module _ (w : View) (l : Ledger) (a k c : ℕ) (h : Holds w l) (i : w .clock a �
         (noted-made l a (w .mail k .source) (countReceived madeVisit) refl (never-twice later l later-holds k a call body at missing late))
         (holds-after-made later l later-holds k a call body at missing late)
 
-    pub call-lands :
+    call-taken :
         c < calledVisit call (w .visit a) .quiesce
         → Landed (w .passage) (countReceived (calledVisit call (w .visit a))) noMessage (w .mail k .source)
-    call-lands =
+    call-taken =
         ⊎-elim
         (λ e.
         when-true
@@ -118,6 +119,26 @@ module _ (w : View) (l : Ledger) (a k c : ℕ) (h : Holds w l) (i : w .clock a �
         e
         (call-makes e))
         (either (w .visit a .there))
+
+    -- then the reply takes its slot
+    pub call-lands :
+        (value : ℕ) → c < calledVisit call (w .visit a) .quiesce
+        → Landed (w .passage) (countReceived (calledVisit call (w .visit a)))
+        (plainMessage (Body.Reply value) (w .mail k .destination) (w .mail k .source) (w .mail k .handle) c)
+        (w .mail k .source)
+    call-lands value early =
+        let post = h .posted k (ap isEmpty body) in
+        let made : Visit = countReceived (calledVisit call (w .visit a)) in
+        let news : Ledger = cond (isFree (w .passage .status)) noLedger (ledgerNoted l a (w .mail k .source) made) in
+        subst
+        (λ (f : ℕ → Message). Holds (record { passage = w .passage; visit = put (w .visit) a made; clock = put (w .clock) a c; mail = f }) news)
+        (put-again (w .mail) k noMessage _)
+        (holds-after-replied (leftView w a k (w .passage) made c noMessage) news k value (w .mail k .destination) (w .mail k .source) (w .mail k .handle) c
+        (call-taken early)
+        (λ free. absurd (omega (arith, ap bodyKind (sym body ∙ h .free free .mail k))))
+        (post .0)
+        (post .2)
+        (post .1))
 
   -- ---- a phase 1 message: the visit takes its part, and its answer takes the message's slot
 
@@ -156,7 +177,7 @@ module _ (w : View) (l : Ledger) (a k c : ℕ) (h : Holds w l) (i : w .clock a �
         (leftView w a k (w .passage) asks c (answerMessage v a (w .passage .home) handle c))
         (withLast l a asks))
         (put-same (w .visit) a asks)
-        (holds-after-reply
+        (holds-after-back
         (withVisit later a asks)
         (withLast l a asks)
         k

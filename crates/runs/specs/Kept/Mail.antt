@@ -1,4 +1,4 @@
--- A message that is no call comes into a message slot: ask, tell, and the answer to a phase 1 message. Assumes nothing.
+-- A message that is no call comes into a message slot: ask, tell, the answer to a phase 1 message, and the reply to a call. Assumes nothing.
 use Prim.Native.Nat.{ℕ, _<_, _≤_}
 use native.Mathlib.Omega.{arith}
 use mathlib.Core.Path.{_≡_, refl, sym, ap, _∙_}
@@ -13,7 +13,7 @@ use Rattle.runs.specs.Walk.Says.{isRefresh, isBinding, bodyKind}
 use Rattle.runs.specs.Walk.Put.{put, put-all}
 use Rattle.runs.specs.Times.View.{View, Ledger}
 use Rattle.runs.specs.Times.Clauses.{Below, QuietMail, Quiet, InAnswer, Figure, FigureFine, EdgeFine, SiteFine, ToldFine, BodyFine, Posted, isCallTo, callsTo, Balanced, Holds}
-use Rattle.runs.specs.Times.ClausesLaws.{one-quiet, two-quiet, answer-quiet, one-clause, two-clause, answer-clause}
+use Rattle.runs.specs.Times.ClausesLaws.{one-quiet, two-quiet, answer-quiet, reply-quiet, one-clause, two-clause, answer-clause, reply-clause}
 use Rattle.runs.specs.Kept.Shrunk.{around, sum-le, body-around, passage-around, site-around}
 
 -- the view with this message at slot k
@@ -250,12 +250,34 @@ module _ (w : View) (l : Ledger) (k site h stamp : ℕ) (g : Holds w l)
       → Holds (withMail w k (plainMessage (tellBody (w .passage .round)) (w .passage .home) site h stamp)) l
   holds-after-tell n = holds-after-mail w l k _ g tell-letter (two-clause away (tell-fine (w .passage .round .kind) refl n))
 
+-- ---- the reply to a call, from a site to a site
+
+pub holds-after-replied :
+    (w : View) (l : Ledger) (k value from to h stamp : ℕ) → Holds w l → (w .passage .status ≡ Status.Free → ⊥)
+    → k < 32 → from < 8 → to < 8
+    → Holds (withMail w k (plainMessage (Body.Reply value) from to h stamp)) l
+holds-after-replied w l k value from to h stamp g taken i j d =
+    holds-after-mail
+    w
+    l
+    k
+    (plainMessage (Body.Reply value) from to h stamp)
+    g
+    (record {
+      taken = taken;
+      posted = (i, j, d);
+      no-call = λ d a. refl;
+      quiet = λ q. reply-quiet;
+      figures = λ v d e f y z. absurd (omega (arith, ap bodyKind (z .body)));
+    })
+    reply-clause
+
 -- ---- the answer of a visit, in place of the phase 1 message
 
-pub holds-after-reply :
+pub holds-after-back :
     (w : View) (l : Ledger) (k a h stamp : ℕ) → Holds w l → w .visit a .there ≡ true → k < 32
     → Holds (withMail w k (answerMessage (w .visit a) a (w .passage .home) h stamp)) l
-holds-after-reply w l k a h stamp g was slot =
+holds-after-back w l k a h stamp g was slot =
     holds-after-mail
     w
     l

@@ -46,7 +46,7 @@ OpenedFrom Kind.Prepare s = isRunning s ≡ true
 -- ---- a step's own store
 
 pub data Move (step : Step) (w : View) (a k : ℕ) (p : Passage) (v : Visit) (c : ℕ) (m : Message) : Type 0 where
-  -- the clock moves, a question goes out, or a message is lost
+  -- the clock moves, a question goes out, a reply is collected, or a message is lost
   Rests :
       p ≡ w .passage → v ≡ w .visit a → w .clock a ≤ c → (m ≡ w .mail k) ⊎ Uncalled m
       → Move step w a k p v c m
@@ -79,13 +79,13 @@ pub data Move (step : Step) (w : View) (a k : ℕ) (p : Passage) (v : Visit) (c 
       isRunning (w .passage .status) ≡ true → p ≡ abortedPassage (w .passage)
       → v ≡ whereThere (w .visit a) (quieted (w .visit a) c false (w .visit a .dead))
       → w .clock a < c → m ≡ w .mail k → Move step w a k p v c m
-  -- a call is delivered
+  -- a call is delivered, and its reply stands in its slot
   Receives :
       (call : Call) → w .mail k .body ≡ Body.Call call → a ≡ w .mail k .destination → p ≡ w .passage
       → v ≡ countReceived (calledVisit call (w .visit a)) → c < calledVisit call (w .visit a) .quiesce
-      → w .clock a < c → m ≡ noMessage → Move step w a k p v c m
+      → w .clock a < c → Uncalled m → Move step w a k p v c m
   -- a phase 1 message is delivered, away from home, and answered; a refresh and a prepare not to a dead visit
-  Replies :
+  Answers :
       (n : ℕ) (asked : Asked) → w .mail k .body ≡ Body.PhaseOne n asked → p ≡ w .passage
       → w .visit a .there ≡ true → (asksLife asked && w .visit a .dead) ≡ false → w .visit a .round < n → v ≡ askedVisit asked n c (w .visit a)
       → w .clock a < c → carriesCommit (m .body) ≡ false
@@ -95,8 +95,8 @@ pub data Move (step : Step) (w : View) (a k : ℕ) (p : Passage) (v : Visit) (c 
   Hears :
       (n : ℕ) (told : Told) → w .mail k .body ≡ Body.PhaseTwo n told → p ≡ w .passage → w .visit a .there ≡ true
       → v ≡ toldVisit told (w .visit a) → w .clock a < c → m ≡ noMessage → Move step w a k p v c m
-  -- an answer of the open round is delivered
-  Collects :
+  -- an answer of the open round is delivered, and its figures are kept
+  Keeps :
       (n received q : ℕ) → w .mail k .body ≡ Body.Answer n received q → n ≡ w .passage .round .number
       → a ≡ w .mail k .destination
       → p ≡ withRound (w .passage) (withAnswer (w .passage .round) (w .mail k .source) (sentFigures (w .mail k) received q))

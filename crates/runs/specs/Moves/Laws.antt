@@ -97,9 +97,9 @@ made-at-unseen {w = w} {a = a} l h (Move.Closes q one closed p v i m fits) e y =
 made-at-unseen {w = w} {a = a} l h (Move.Aborts runs p v i m) e y = absurd (where-gone (w .visit a) _ e (ap (λ (x : Visit). x .there) (sym v) ∙ y))
 made-at-unseen {w = w} {a = a} {k = k} {c = c} l h (Move.Receives call body at p v early i m) e y =
     let q : c < call .quiesce = rw e at early in never-twice w l h k a call body at e (omega arith)
-made-at-unseen l h (Move.Replies n asked body p there live round v i q f uncalled) e y = absurd (false≢true (sym e ∙ there))
+made-at-unseen l h (Move.Answers n asked body p there live round v i q f uncalled) e y = absurd (false≢true (sym e ∙ there))
 made-at-unseen l h (Move.Hears n told body p there v i m) e y = absurd (false≢true (sym e ∙ there))
-made-at-unseen l h (Move.Collects n r q body number at p v i stamp m) e y = absurd (false≢true (sym e ∙ ap (λ (x : Visit). x .there) (sym v) ∙ y))
+made-at-unseen l h (Move.Keeps n r q body number at p v i stamp m) e y = absurd (false≢true (sym e ∙ ap (λ (x : Visit). x .there) (sym v) ∙ y))
 
 -- a turn makes none
 pub turned-unmade : {w : View} {a : ℕ} {p : Passage} {v : Visit} {trip : Trip} → Turn w a p v trip → w .visit a .there ≡ false → v .there ≡ true → ⊥
@@ -135,11 +135,11 @@ quiesce-after {w = w} {a = a} {v = v} l h (Move.Closes q one closed p u i m fits
     rw t (later-told (roundTold (w .passage .round)) x (w .visit a) j (ap (λ (z : Visit). z .there) (sym t) ∙ y))
 quiesce-after {w = w} {a = a} l h (Move.Aborts runs p v i m) x e y j n = rw (v, e) (omega arith)
 quiesce-after {w = w} {a = a} l h (Move.Receives call body at p v early i m) x e y j n = rw (v, e) j
-quiesce-after {w = w} {a = a} {c = c} l h (Move.Replies b asked body p there live round v i q f uncalled) x e y j n =
+quiesce-after {w = w} {a = a} {c = c} l h (Move.Answers b asked body p there live round v i q f uncalled) x e y j n =
     rw v (later-asked asked b c x (w .visit a) j (omega arith))
 quiesce-after {w = w} {a = a} l h (Move.Hears b told body p there v i m) x e y j n =
     rw v (later-told told x (w .visit a) j (ap (λ (z : Visit). z .there) (sym v) ∙ y))
-quiesce-after l h (Move.Collects b r q body number at p v i stamp m) x e y j n = rw v j
+quiesce-after l h (Move.Keeps b r q body number at p v i stamp m) x e y j n = rw v j
 
 -- a turn of a crash brings it down to the clock as it stands
 abbrev pub isCrash : Trip → Bool
@@ -169,6 +169,6 @@ clock-after-move (Move.Opens kind from home was e y i z) = omega arith
 clock-after-move (Move.Closes home one closed e y i z fits) = omega arith
 clock-after-move (Move.Aborts runs e y i z) = omega arith
 clock-after-move (Move.Receives call body at e y early i z) = omega arith
-clock-after-move (Move.Replies b asked body e was live below y i silent reply uncalled) = omega arith
+clock-after-move (Move.Answers b asked body e was live below y i silent back uncalled) = omega arith
 clock-after-move (Move.Hears b told body e was y i z) = omega arith
-clock-after-move (Move.Collects b r q body number at e y i stamp z) = omega arith
+clock-after-move (Move.Keeps b r q body number at e y i stamp z) = omega arith

@@ -21,7 +21,7 @@ use Rattle.rules.specs.Parts.{isFree, isActive, isRunning, isAborted, isPhaseOn
 use Rattle.rules.specs.Stations.{tickOf, tickDone, sweepOf, sweepDone, isSwept, sweptSlot, crashOf, crashDone, losesHome, crashedSlot, recoverOf, recoverDone}
 use Rattle.rules.specs.Passages.{beginOf, beginDone, abortOf, abortDone, retireOf, retireDone}
 use Rattle.rules.specs.Rounds.{openChecks, openOf, openDone, refreshOf, terminateOf, prepareOf, askOf, askDone, closeOf, closeDone, tellChecks, tellOf, tellDone, tellBody}
-use Rattle.rules.specs.Calls.{callSite, callOf, invokeChecks, mailClock, calledVisit, callChecks, callDone, roundChecks, atHome, phaseOneDone, phaseTwoDone, answerChecks, answerDone, invokeOf, invokeDone, emptyOf, deliverCallOf, deliverPhaseOneOf, deliverPhaseTwoOf, deliverAnswerOf, deliverBodyOf, dropOf, dropDone}
+use Rattle.rules.specs.Calls.{callSite, callOf, invokeChecks, mailClock, calledVisit, callChecks, replyTo, callDone, replyDone, roundChecks, atHome, phaseOneDone, phaseTwoDone, answerChecks, answerDone, invokeOf, invokeDone, emptyOf, deliverCallOf, deliverPhaseOneOf, deliverPhaseTwoOf, deliverAnswerOf, deliverReplyOf, deliverBodyOf, dropOf, dropDone}
 use Rattle.rules.specs.Machine.{looksHome, lookOf, placesOf, seenOf, decideOf, foundOf, slotPlaces, tripPlaces, turnSeen, isMessageOf}
 use Rattle.runs.specs.Types.{Kind, Status, Call, Asked, Told, Body, Message, Tables, Step, Places, Seen, Decision}
 use Rattle.runs.specs.Walk.Says.{isPrepare, tellsPrepare, carriesCommit}
@@ -206,7 +206,7 @@ module _ (t : Tables) (at : Places) (m : ℕ) (l : Ledger) (own : slotOf (messag
       refl
       (leb-false _ _ (or-left _ (calledVisit c (visitAt t (at .site) (at .slot)) .dead) (fine .early)))
       (omega arith)
-      refl
+      (seen-uncalled (at .slot) (replyTo c (mailClock seen) seen) (record { plain = record { commit = refl; answer = refl }; none = λ d. refl }))
 
   -- a phase 1 or phase 2 message goes away from home
   not-home :
@@ -221,7 +221,7 @@ module _ (t : Tables) (at : Places) (m : ℕ) (l : Ledger) (own : slotOf (messag
   phase-one-move n asked body fine =
       let away : atHome seen ≡ false =
       not-home (Body.PhaseOne n asked) body refl (h .mail (at .message) .one n asked (mine (Body.PhaseOne n asked) body refl) .away) in
-      Move.Replies
+      Move.Answers
       n
       asked
       (mine (Body.PhaseOne n asked) body refl)
@@ -231,18 +231,18 @@ module _ (t : Tables) (at : Places) (m : ℕ) (l : Ledger) (own : slotOf (messag
       (leb-false _ _ (fine .round))
       refl
       (omega arith)
-      (rw away (mail-has (λ (x : Message). carriesCommit (x .body) ≡ false) (at .slot) reply refl refl))
+      (rw away (mail-has (λ (x : Message). carriesCommit (x .body) ≡ false) (at .slot) back refl refl))
       (rw away (mail-has
       (λ (x : Message).
       isAnswer (x .body) ≡ true → (x .source ≡ at .site) × (x .destination ≡ passageAt t (at .slot) .home) × (x .stamp ≡ mailClock seen))
       (at .slot)
-      reply
+      back
       (λ e. (sym here, refl, refl))
       (λ e. absurd (false≢true e))))
-      (rw away (mail-has (λ (x : Message). (d : ℕ) → callTo d x ≡ 0) (at .slot) reply (λ d. refl) (λ d. refl)))
+      (rw away (mail-has (λ (x : Message). (d : ℕ) → callTo d x ≡ 0) (at .slot) back (λ d. refl) (λ d. refl)))
     where
-      reply : Message
-      reply =
+      back : Message
+      back =
           answerMessage
           (askedVisit asked n (mailClock seen) (visitAt t (at .site) (at .slot)))
           (letter .destination)
@@ -272,7 +272,7 @@ module _ (t : Tables) (at : Places) (m : ℕ) (l : Ledger) (own : slotOf (messag
       → MoveAt (Step.Deliver m) t at (answerDone m n received q seen .left)
   answer-move n received q body fine =
       let same : viewOf t (at .slot) .mail (at .message) ≡ letter = letter-seen t at m own here kin (Body.Answer n received q) body refl in
-      Move.Collects
+      Move.Keeps
       n
       received
       q
@@ -287,6 +287,9 @@ module _ (t : Tables) (at : Places) (m : ℕ) (l : Ledger) (own : slotOf (messag
       (rw same (omega arith))
       refl
 
+  reply-move : (value : ℕ) → MoveAt (Step.Deliver m) t at (replyDone m value seen .left)
+  reply-move value = Move.Rests refl refl (omega arith) (inr (seen-uncalled (at .slot) noMessage empty-uncalled))
+
 -- ---- every step
 
 module _ (t : Tables) (range : inRange t ≡ true) (l : Ledger) where
@@ -294,7 +297,7 @@ module _ (t : Tables) (range : inRange t ≡ true) (l : Ledger) where
       (m : ℕ) (b : Body) → seenOf t (deliverAt t m) .message .body ≡ b → Holds (viewOf t (deliverAt t m .slot)) l
       → isAccepted (deliverBodyOf b m (seenOf t (deliverAt t m)) .answer) ≡ true
       → MoveAt (Step.Deliver m) t (deliverAt t m) (deliverBodyOf b m (seenOf t (deliverAt t m)) .left)
-  unfolding deliverBodyOf emptyOf deliverCallOf deliverPhaseOneOf deliverPhaseTwoOf deliverAnswerOf
+  unfolding deliverBodyOf emptyOf deliverCallOf deliverPhaseOneOf deliverPhaseTwoOf deliverAnswerOf deliverReplyOf
   body-move m Body.Empty e h y = absurd (true≢false (sym (ap isEmpty e) ∙ accepted-fine _ 0 y .found))
   body-move m (Body.Call c) e h y =
       move-settled t (deliverAt t m) (callDone m c (seenOf t (deliverAt t m))) y
@@ -308,6 +311,9 @@ module _ (t : Tables) (range : inRange t ≡ true) (l : Ledger) where
   body-move m (Body.Answer n received q) e h y =
       move-settled t (deliverAt t m) (answerDone m n received q (seenOf t (deliverAt t m))) y
       (answer-move t (deliverAt t m) m l (deliver-own t m range) (deliver-here t m range) (deliver-in t m range) h n received q e (accepted-fine _ _ y))
+  body-move m (Body.Reply value) e h y =
+      move-settled t (deliverAt t m) (replyDone m value (seenOf t (deliverAt t m))) y
+      (reply-move t (deliverAt t m) m l (deliver-own t m range) (deliver-here t m range) (deliver-in t m range) h value)
 
   pub move-of :
       (step : Step) → Holds (viewOf t (placesAt t step .slot)) l

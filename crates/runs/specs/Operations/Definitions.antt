@@ -8,7 +8,7 @@ use mathlib.Core.List.{List, _∷_, _++_}
 use lib.Dec.{eqb}
 use Rattle.rules.specs.Tables.{siteAt, passageAt, visitAt, messageAt, objectSite, slotOf}
 use Rattle.rules.specs.Answers.{isAccepted, answerValue}
-use Rattle.rules.specs.Parts.{isEmpty}
+use Rattle.rules.specs.Parts.{isEmpty, plainMessage}
 use Rattle.rules.specs.Stations.{isSweepable}
 use Rattle.rules.specs.Machine.{lookOf, placesOf, stepOf}
 use Rattle.rules.specs.Record.{flatOf, isStep}
@@ -49,6 +49,21 @@ saidRelease = bySaying 0 (λ c. c .release) (λ a. 0) (λ d. 0)
 -- the station that the operation is at. (Of tables of a run it is the object's.)
 abbrev pub operatedAt : Tables → Step → ℕ
 operatedAt t s = mailNamed t s .destination % 8
+
+-- a reply to the call that the operation delivers: with this value, from its station to the one that called, for the call's handle,
+-- stamped with its station's clock after it, and with nothing else
+abbrev pub replyFor : Tables → Step → ℕ → Message
+replyFor t s v =
+    plainMessage
+    (Body.Reply v)
+    (mailNamed t s .destination)
+    (mailNamed t s .source)
+    (mailNamed t s .handle)
+    (siteAt (stepOf t s .tables) (operatedAt t s) .clock)
+
+-- what the operation found: the reply that it leaves in its message slot carries this value
+abbrev pub Finds : Tables → Step → ℕ → Type 0
+Finds t s v = mailNamed (stepOf t s .tables) s .body ≡ Body.Reply v
 
 -- ---- before the quiesce time
 
@@ -199,6 +214,13 @@ pub record InvokedInto (t : Tables) (step : Step) (m : ℕ) : Type 0 where
   pub invokes : step ≡ Step.Invoke handle site operation object value
   pub accepted : isAccepted (stepOf t (Step.Invoke handle site operation object value) .answer) ≡ true
   pub answers : answerValue (stepOf t (Step.Invoke handle site operation object value) .answer) ≡ m
+
+-- the step is an accepted delivery of the call in message slot m
+pub record RepliedInto (t : Tables) (step : Step) (m : ℕ) : Type 0 where
+  pub delivers : step ≡ Step.Deliver m
+  pub call : Call
+  pub body : messageAt t m .body ≡ Body.Call call
+  pub accepted : isAccepted (stepOf t (Step.Deliver m) .answer) ≡ true
 
 -- among these steps is one that is accepted and delivers or drops message m; until then the message waits as it was
 pub record TakenUp (t : Tables) (m : ℕ) (steps : List Step) : Type 0 where

@@ -5,7 +5,7 @@ use Prim.Native.Nat.{ℕ, _%_, _<_, _≤_}
 use native.Mathlib.Omega.{arith}
 use mathlib.Core.Path.{_≡_, refl, sym, ap, _∙_, subst}
 use mathlib.Core.Logic.{_≢_, ⊎-elim, _⊎_, inl, inr}
-use mathlib.Core.Bool.{true, false, true≢false}
+use mathlib.Core.Bool.{Bool, true, false, true≢false}
 use mathlib.Core.List.{List, [], _∷_}
 use borrow.Author.Tests.{ltb-false, eq-eqb}
 use Rattle.rules.specs.declared.looking.Trip.{Trip}
@@ -22,7 +22,7 @@ use Rattle.rules.specs.RefusedLaws.{refused-leaves}
 use Rattle.rules.specs.SettledLaws.{delivered-named}
 use Rattle.rules.specs.Runs.{runOf}
 use Rattle.rules.specs.Views.{Post, isCalled, Calling, deedOf}
-use Rattle.runs.specs.Types.{Message, Tables, Step, Outcome, Seen}
+use Rattle.runs.specs.Types.{Body, Message, Tables, Step, Outcome, Seen}
 use Rattle.runs.specs.Walk.Put.{same-or-other}
 use Rattle.runs.specs.Walk.Steps.{placesAt, seenAt}
 use Rattle.runs.specs.Walk.Sound.{Sound, sound-step, sound-step-has}
@@ -52,7 +52,7 @@ turn-mail m trip n o l y =
 abbrev ForOther : (m : ℕ) {step : Step} → Post step → Type 0
 ForOther m (Post.Delivers n) = n ≢ m
 ForOther m (Post.Drops n) = n ≢ m
-ForOther m (Post.Sends step empty) = Unit {0}
+ForOther m (Post.Sends step empty none) = Unit {0}
 ForOther m (Post.Stays step leaves) = Unit {0}
 
 module _ (t : Tables) (step : Step) (m : ℕ) (z : Sound t) (full : isEmpty (messageAt t m .body) ≡ false) where
@@ -67,7 +67,7 @@ module _ (t : Tables) (step : Step) (m : ℕ) (z : Sound t) (full : isEmpty (mes
   own x (Post.Delivers n) other e at =
       absurd (other (named n (ltb-false 31 n (delivered-named (messageAt t (n % 32) .body) n (seenAt t x) e)) at))
   own x (Post.Drops n) other e at = absurd (other (named n (ltb-false 31 n (accepted-fine _ _ e .fields)) at))
-  own x (Post.Sends _ empty) other e at =
+  own x (Post.Sends _ empty none) other e at =
       absurd (true≢false (sym (subst (λ (k : ℕ). isEmpty (messageAt t k .body) ≡ true) (sym at) (empty _ (seenAt t x) e)) ∙ full))
   own x (Post.Stays _ leaves) other e at = leaves _ (seenAt t x)
 
@@ -96,7 +96,7 @@ module _ (t : Tables) (step : Step) (m : ℕ) (z : Sound t) (full : isEmpty (mes
   for-other : (x : Step) (post : Post x) → ForOther m post ⊎ ((x ≡ Step.Deliver m) ⊎ (x ≡ Step.Drop m))
   for-other x (Post.Delivers n) = ⊎-elim (λ e. inr (inl (ap Step.Deliver e))) (λ other. inl other) (same-or-other n m)
   for-other x (Post.Drops n) = ⊎-elim (λ e. inr (inr (ap Step.Drop e))) (λ other. inl other) (same-or-other n m)
-  for-other x (Post.Sends _ empty) = inl tt
+  for-other x (Post.Sends _ empty none) = inl tt
   for-other x (Post.Stays _ leaves) = inl tt
 
   -- a full message slot is left as it was, or the step is its own delivery or its own drop, and accepted
@@ -113,61 +113,74 @@ module _ (t : Tables) (step : Step) (m : ℕ) (z : Sound t) (full : isEmpty (mes
       (either (isAccepted (stepOf t step .answer))))
       (for-other step (deedOf step .post))
 
--- ---- where a call comes from
+-- ---- where a message of one kind comes from
 
-module _ (t : Tables) (m : ℕ) (z : Sound t) where
+-- an accepted step that leaves such a message in the slot that it looks at saw it there, or is of this kind
+module _ (t : Tables) (m : ℕ) (z : Sound t) (is : Body → Bool) (Into : Step → Type 0)
+    (comes :
+    (step : Step) → isAccepted (stepOf t step .answer) ≡ true → isAccepted (decisionAt t step .answer) ≡ true → m ≡ placesAt t step .message
+    → is (decisionAt t step .left .message .body) ≡ true
+    → (decisionAt t step .left .message ≡ seenAt t step .message) ⊎ Into step) where
   -- by the own store of a step
-  head-called :
-      (step : Step) → Calling step → isAccepted (stepOf t step .answer) ≡ true → isAccepted (headOf t step .answer) ≡ true
-      → isCalled (messageAt (headOf t step .tables) m .body) ≡ true
-      → (messageAt (headOf t step .tables) m ≡ messageAt t m) ⊎ InvokedInto t step m
+  head-comes :
+      (step : Step) → isAccepted (stepOf t step .answer) ≡ true → isAccepted (headOf t step .answer) ≡ true
+      → is (messageAt (headOf t step .tables) m .body) ≡ true
+      → (messageAt (headOf t step .tables) m ≡ messageAt t m) ⊎ Into step
   unfolding headOf
-  head-called step calling a e c =
+  head-comes step a e c =
       ⊎-elim
-      (λ (at : m ≡ placesAt t step .message). here step calling a at
-      (ap (messageAt (stored t (placesAt t step) (decisionAt t step .left))) at
-      ∙ message-after-stored t (placesAt t step) _ (z .sized) (placed-places t (lookOf step)))
-      c)
+      (λ (at : m ≡ placesAt t step .message).
+      let here : messageAt (stored t (placesAt t step) (decisionAt t step .left)) m ≡ decisionAt t step .left .message =
+      ap (messageAt (stored t (placesAt t step) (decisionAt t step .left))) at
+      ∙ message-after-stored t (placesAt t step) _ (z .sized) (placed-places t (lookOf step)) in
+      ⊎-elim
+      (λ same. inl (here ∙ same ∙ ap (messageAt t) (sym at)))
+      inr
+      (comes step a e at (ap (λ (x : Message). is (x .body)) (sym here) ∙ c)))
       (λ apart. inl (message-after-stored-other t (placesAt t step) _ m apart))
       (same-or-other m (placesAt t step .message))
-    where
-      here :
-          (step : Step) → Calling step → isAccepted (stepOf t step .answer) ≡ true → (at : m ≡ placesAt t step .message)
-          → messageAt (stored t (placesAt t step) (decisionAt t step .left)) m ≡ decisionAt t step .left .message
-          → isCalled (messageAt (stored t (placesAt t step) (decisionAt t step .left)) m .body) ≡ true
-          → (messageAt (stored t (placesAt t step) (decisionAt t step .left)) m ≡ messageAt t m) ⊎ InvokedInto t step m
-      here _ (Calling.Invokes h site b k u) a at is c =
-          inr (record {
-            handle = h;
-            site = site;
-            operation = b;
-            object = k;
-            value = u;
-            invokes = refl;
-            accepted = a;
-            answers = invoked-answers t h site b k u z a ∙ sym at;
-          })
-      here step (Calling.Stands _ stands) a at is c =
-          inl (is ∙ stands _ (seenAt t step) (ap (λ (x : Message). isCalled (x .body)) (sym is) ∙ c) ∙ ap (messageAt t) (sym at))
 
-  -- a message slot that holds a call after a step held that message before it, or the step is the accepted invoke that answers the slot
-  pub call-was-invoked :
-      (step : Step) → isCalled (messageAt (stepOf t step .tables) m .body) ≡ true
-      → (messageAt (stepOf t step .tables) m ≡ messageAt t m) ⊎ InvokedInto t step m
-  call-was-invoked step =
+  -- a message slot that holds such a message after a step held that message before it, or the step is of this kind
+  pub comes-from :
+      (step : Step) → is (messageAt (stepOf t step .tables) m .body) ≡ true
+      → (messageAt (stepOf t step .tables) m ≡ messageAt t m) ⊎ Into step
+  comes-from step =
       ⊎-elim
       (λ a.
       sound-step-has t step z
-      (λ n u. isCalled (messageAt u m .body) ≡ true → (messageAt u m ≡ messageAt t m) ⊎ InvokedInto t step m)
+      (λ n u. is (messageAt u m .body) ≡ true → (messageAt u m ≡ messageAt t m) ⊎ Into step)
       (λ n o l y k c.
       let same : messageAt (turnOf (lookOf step .trip) n o .tables) m ≡ messageAt (o .tables) m = turn-mail m (lookOf step .trip) n o l y in
-      ⊎-elim (λ e. inl (same ∙ e)) inr (k (ap (λ (x : Message). isCalled (x .body)) (sym same) ∙ c)))
-      (λ e c. head-called step (deedOf step .calling) a e c)
-      (λ u. isCalled (messageAt u m .body) ≡ true → (messageAt u m ≡ messageAt t m) ⊎ InvokedInto t step m)
+      ⊎-elim (λ e. inl (same ∙ e)) inr (k (ap (λ (x : Message). is (x .body)) (sym same) ∙ c)))
+      (λ e c. head-comes step a e c)
+      (λ u. is (messageAt u m .body) ≡ true → (messageAt u m ≡ messageAt t m) ⊎ Into step)
       (λ c. inl refl)
       (λ u k. k))
       (λ a c. inl (ap (λ (u : Tables). messageAt u m) (refused-leaves t step a)))
       (either (isAccepted (stepOf t step .answer)))
+
+-- a call: the step is the accepted invoke that answers the slot
+pub call-was-invoked :
+    (t : Tables) (m : ℕ) → Sound t → (step : Step) → isCalled (messageAt (stepOf t step .tables) m .body) ≡ true
+    → (messageAt (stepOf t step .tables) m ≡ messageAt t m) ⊎ InvokedInto t step m
+call-was-invoked t m z = comes-from t m z isCalled (λ step. InvokedInto t step m) (λ step a e at. by step (deedOf step .calling) a at)
+  where
+    by :
+        (step : Step) → Calling step → isAccepted (stepOf t step .answer) ≡ true → m ≡ placesAt t step .message
+        → isCalled (decisionAt t step .left .message .body) ≡ true
+        → (decisionAt t step .left .message ≡ seenAt t step .message) ⊎ InvokedInto t step m
+    by _ (Calling.Invokes h site b k u) a at c =
+        inr (record {
+          handle = h;
+          site = site;
+          operation = b;
+          object = k;
+          value = u;
+          invokes = refl;
+          accepted = a;
+          answers = invoked-answers t h site b k u z a ∙ sym at;
+        })
+    by step (Calling.Stands _ stands) a at c = inl (stands _ (seenAt t step) c)
 
 -- ---- a list of steps
 

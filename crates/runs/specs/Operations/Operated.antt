@@ -1,4 +1,4 @@
--- What an operation answers and leaves, of any sound tables: the object was free or the passage's own and is held after it, the answer is the value before,
+-- What an operation finds and leaves, of any sound tables: the object was free or the passage's own and is held after it, the reply carries the value before,
 -- a write leaves its value and a read the old one, and the visit that operated is still open after it.
 -- The idea: an accepted delivery of a call is one store, and its object stands where the call's bank says. Assumes nothing.
 use Prim.Native.Nat.{ℕ, _/_, _%_, _≤_, _<_}
@@ -14,24 +14,24 @@ use Rattle.rules.specs.LoopsLaws.{either, and-left, and-right, or-left, or-righ
 use Rattle.rules.specs.Tables.{pastObject, siteAt, objectAt, visitAt, messageAt, objectSite, slotOf}
 use Rattle.rules.specs.Answers.{isAccepted, firstOf}
 use Rattle.rules.specs.AnswersLaws.{Fine, accepted-fine, accepted-value, settle-accepted}
-use Rattle.rules.specs.Parts.{isUnheld, isHeldBy, isHeldByOther, taken, operated}
+use Rattle.rules.specs.Parts.{isUnheld, isHeldBy, isHeldByOther, taken, operated, plainMessage}
 use Rattle.rules.specs.PartsLaws.{value-of-read, value-of-written, before-of-called, holder-of-called, held-not-unheld}
 use Rattle.rules.specs.Calls.{mailClock, mailSlot, calledVisit, calledObject, callChecks, called, callDone, deliverCallOf, deliverBodyOf}
 use Rattle.rules.specs.Machine.{lookOf, placesOf, decideOf, stored, stepOf}
 use Rattle.rules.specs.RangesLaws.{placed-places}
 use Rattle.rules.specs.RangesFits.{call-range-says}
-use Rattle.rules.specs.StoredLaws.{site-after-stored, visit-after-stored}
+use Rattle.rules.specs.StoredLaws.{site-after-stored, visit-after-stored, message-after-stored}
 use Rattle.rules.specs.StoredObjects.{seen-object, object-after-stored, object-after-stored-other}
 use Rattle.rules.specs.Record.{isStep}
 use Rattle.rules.specs.Events.{isHolding}
 use Rattle.rules.specs.Views.{Objects, deedOf}
-use Rattle.runs.specs.Types.{Site, Visit, Call, Body, Tables, Step, Answer, Places, Seen, Decision}
+use Rattle.runs.specs.Types.{Site, Visit, Call, Body, Message, Tables, Step, Answer, Places, Seen, Decision}
 use Rattle.runs.specs.Walk.Put.{same-or-other}
 use Rattle.runs.specs.Walk.Steps.{placesAt, seenAt}
 use Rattle.runs.specs.Walk.Sound.{Sound}
 use Rattle.runs.specs.Holders.HeldStore.{Held}
 use Rattle.runs.specs.Orphans.Rests.{standing, standing-after-call}
-use Rattle.runs.specs.Operations.Definitions.{mailNamed, callsFor, operates, isWrite, toWrite, saidQuiesce, saidRelease, operatedAt, StillOpen, Living}
+use Rattle.runs.specs.Operations.Definitions.{mailNamed, callsFor, operates, isWrite, toWrite, saidQuiesce, saidRelease, operatedAt, replyFor, Finds, StillOpen, Living}
 use Rattle.runs.specs.Operations.Single.{decisionAt, accepted-seen, decision-accepted, single-answer, single-stored}
 
 -- ---- an accepted delivery of a call
@@ -48,18 +48,18 @@ module _ (t : Tables) (m : ℕ) (c : Call) (z : Sound t) (a : isAccepted (stepOf
   unfolding placesOf decideOf deliverBodyOf
   decided = rw b
 
-  checked : isAccepted (firstOf (callChecks m c Saw) (calledObject c Saw .value)) ≡ true
+  checked : isAccepted (firstOf (callChecks m c Saw) 0) ≡ true
   unfolding deliverCallOf
   checked = rw decided at (decision-accepted t (Step.Deliver m) a)
 
   fine : Fine (callChecks m c Saw)
-  fine = accepted-fine (callChecks m c Saw) (calledObject c Saw .value) checked
+  fine = accepted-fine (callChecks m c Saw) 0 checked
 
-  answered : stepOf t (Step.Deliver m) .answer ≡ Answer.Accepted (calledObject c Saw .value)
+  answered : stepOf t (Step.Deliver m) .answer ≡ Answer.Accepted 0
   unfolding deliverCallOf
   answered =
       single-answer t (Step.Deliver m) refl a ∙ ap (λ (d : Decision). d .answer) decided
-      ∙ accepted-value (callChecks m c Saw) (calledObject c Saw .value) checked
+      ∙ accepted-value (callChecks m c Saw) 0 checked
 
   left-there : stepOf t (Step.Deliver m) .tables ≡ stored t At (called c (mailClock Saw) Saw)
   unfolding deliverCallOf
@@ -108,6 +108,18 @@ module _ (t : Tables) (m : ℕ) (c : Call) (z : Sound t) (a : isAccepted (stepOf
       ap (λ (u : Tables). siteAt u (At .site)) left-there
       ∙ site-after-stored t At (called c (mailClock Saw) Saw) (z .sized) (placed-places t (lookOf (Step.Deliver m)))
 
+  -- in the message slot stands the reply
+  reply-left : messageAt (stepOf t (Step.Deliver m) .tables) (m % 32) ≡ replyFor t (Step.Deliver m) (objectAt t (c .object) .value)
+  unfolding placesOf
+  reply-left =
+      ap (λ (u : Tables). messageAt u (m % 32)) left-there
+      ∙ message-after-stored t At (called c (mailClock Saw) Saw) (z .sized) (placed-places t (lookOf (Step.Deliver m)))
+      ∙ ap (λ (o : Object). reply (o .value) (mailClock Saw)) object-seen
+      ∙ ap (reply (objectAt t (c .object) .value)) (ap (λ (s : Site). s .clock) (sym site-left))
+    where
+      reply : ℕ → ℕ → Message
+      reply v = plainMessage (Body.Reply v) (messageAt t (m % 32) .destination) (messageAt t (m % 32) .source) (messageAt t (m % 32) .handle)
+
   visit-left : visitAt (stepOf t (Step.Deliver m) .tables) (At .site) (At .slot) ≡ called c (mailClock Saw) Saw .visit
   visit-left =
       ap (λ (u : Tables). visitAt u (At .site) (At .slot)) left-there
@@ -141,7 +153,8 @@ record Operation (t : Tables) (p k : ℕ) (s : Step) : Type 0 where
   value : toWrite (mailNamed t s .body) ≡ call .value
   below : k < 32
   free : isHeldByOther p (objectAt t k) ≡ false
-  answer : stepOf t s .answer ≡ Answer.Accepted (objectAt t k .value)
+  answer : stepOf t s .answer ≡ Answer.Accepted 0
+  reply : mailNamed (stepOf t s .tables) s ≡ replyFor t s (objectAt t k .value)
   after : objectAt (stepOf t s .tables) k ≡ operated call (taken p (objectAt t k))
   others : (j : ℕ) → j ≢ k → objectAt (stepOf t s .tables) j ≡ objectAt t j
   station : Held t → operatedAt t s ≡ objectSite k
@@ -171,7 +184,8 @@ module _ (t : Tables) (z : Sound t) where
         value = rw b;
         below = rw (← o) (omega arith);
         free = rw (← e, ← o) (rw (object-seen t m c z a b) at (fine t m c z a b .unheld));
-        answer = rw (← o) (rw (object-seen t m c z a b) at (answered t m c z a b));
+        answer = answered t m c z a b;
+        reply = rw (← o) (reply-left t m c z a b);
         after = rw (← e, ← o) (object-left t m c z a b);
         others = λ j n. objects-left t m c z a b j (λ y. n (y ∙ o));
         station =
@@ -191,6 +205,7 @@ module _ (t : Tables) (z : Sound t) where
   call-operation m p k (Body.PhaseOne n asked) b a e f = absurd (false≢true f)
   call-operation m p k (Body.PhaseTwo n told) b a e f = absurd (false≢true f)
   call-operation m p k (Body.Answer n r q) b a e f = absurd (false≢true f)
+  call-operation m p k (Body.Reply v) b a e f = absurd (false≢true f)
 
   step-operation : (p k : ℕ) (s : Step) → Objects s → operates t p k s ≡ true → Operation t p k s
   step-operation p k _ (Objects.Closes h) f = absurd (false≢true (and-right (isAccepted (stepOf t (Step.Close h) .answer)) _ f))
@@ -234,9 +249,20 @@ module _ (t : Tables) (p k : ℕ) (s : Step) (z : Sound t) (operating : operates
   pub operated-is-held : isHolding (stepOf t s .tables) p k ≡ true
   operated-is-held = ap (isHeldBy p) (op .after) ∙ holder-of-called p (objectAt t k) (op .call) (op .free)
 
-  -- an operation answers the value that the object had before it
-  pub operated-reads : stepOf t s .answer ≡ Answer.Accepted (objectAt t k .value)
-  operated-reads = op .answer
+  -- an operation answers nothing
+  pub operated-answers : stepOf t s .answer ≡ Answer.Accepted 0
+  operated-answers = op .answer
+
+  -- it leaves in its message slot a reply with the value that the object had before it
+  pub operated-replies : mailNamed (stepOf t s .tables) s ≡ replyFor t s (objectAt t k .value)
+  operated-replies = op .reply
+
+  -- so what it found is the value that the object had
+  pub operated-finds : Finds t s (objectAt t k .value)
+  operated-finds = ap (λ (x : Message). x .body) operated-replies
+
+  pub found-before : (v : ℕ) → Finds t s v → objectAt t k .value ≡ v
+  found-before v found = let same : Body.Reply (objectAt t k .value) ≡ Body.Reply v = sym operated-finds ∙ found in cc
 
   -- after a write the object has the value that the call brought
   pub operated-writes : isWrite (mailNamed t s .body) ≡ true → objectAt (stepOf t s .tables) k .value ≡ toWrite (mailNamed t s .body)

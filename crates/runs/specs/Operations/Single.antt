@@ -1,15 +1,20 @@
 -- An accepted step that goes through no slots is its own store: its answer is the decision's, and its tables are what the decision left, stored.
 -- Assumes nothing.
+use Prim.Native.Nat.{ℕ, _%_, _<_, _≤_}
+use native.Mathlib.Omega.{arith}
 use mathlib.Core.Path.{_≡_, ap, _∙_}
 use mathlib.Core.Logic.{⊎-elim}
 use mathlib.Core.Bool.{true, false≢true}
+use borrow.Author.Tests.{ltb-false}
 use Rattle.rules.specs.declared.looking.Trip.{Trip}
 use Rattle.rules.specs.LoopsLaws.{either}
+use Rattle.rules.specs.Tables.{messageAt}
 use Rattle.rules.specs.Answers.{isAccepted}
 use Rattle.rules.specs.Ranges.{inRange}
 use Rattle.rules.specs.RangesLaws.{placed-places, seen-in-range}
 use Rattle.rules.specs.RangesFits.{SeenFits, seen-says}
-use Rattle.rules.specs.Machine.{lookOf, foundOf, decideOf, stored, headOf, turnsUpTo, turnCount, stepOf}
+use Rattle.rules.specs.Machine.{lookOf, placesOf, foundOf, decideOf, stored, headOf, turnsUpTo, turnCount, stepOf}
+use Rattle.rules.specs.SettledLaws.{delivered-named}
 use Rattle.runs.specs.Types.{Tables, Step, Decision, Outcome}
 use Rattle.runs.specs.Walk.Steps.{placesAt, seenAt, accepted-turned, head-accepted}
 
@@ -30,6 +35,13 @@ accepted-seen t step e = seen-says _ (seen-in-range t (placesAt t step) (accepte
 pub decision-accepted : (t : Tables) (step : Step) → isAccepted (stepOf t step .answer) ≡ true → isAccepted (decisionAt t step .answer) ≡ true
 unfolding headOf
 decision-accepted t step e = head-accepted t step e
+
+-- an accepted delivery names one of the 32 message slots
+pub delivery-below : (t : Tables) (m : ℕ) → isAccepted (stepOf t (Step.Deliver m) .answer) ≡ true → m < 32
+unfolding placesOf decideOf
+delivery-below t m e =
+    let l : m ≤ 31 = ltb-false 31 m (delivered-named (messageAt t (m % 32) .body) m (seenAt t (Step.Deliver m)) (decision-accepted t (Step.Deliver m) e)) in
+    omega arith
 
 module _ (t : Tables) (step : Step) (n : lookOf step .trip ≡ Trip.Nowhere) (e : isAccepted (stepOf t step .answer) ≡ true) where
   single : stepOf t step ≡ headOf t step

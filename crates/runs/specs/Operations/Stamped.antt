@@ -6,7 +6,7 @@ use mathlib.Core.Path.{_≡_, refl, sym, ap, _∙_, subst, subst₂}
 use mathlib.Core.Logic.{_≢_}
 use mathlib.Core.Bool.{true, false, not}
 use mathlib.Core.List.{List}
-use borrow.Author.Tests.{ltb-false, ne-eqb}
+use borrow.Author.Tests.{ne-eqb}
 use Rattle.rules.specs.declared.outcomes.Check.{Check}
 use Rattle.rules.specs.declared.looking.Trip.{Trip}
 use Rattle.rules.specs.LoopsLaws.{not-false}
@@ -19,11 +19,10 @@ use Rattle.rules.specs.Calls.{mailClock, atHome, phaseOneDone, askedAt, deliver
 use Rattle.rules.specs.Machine.{lookOf, placesOf, decideOf, stored, stepOf}
 use Rattle.rules.specs.RangesLaws.{placed-places}
 use Rattle.rules.specs.StoredLaws.{site-after-stored, visit-after-stored, message-after-stored}
-use Rattle.rules.specs.SettledLaws.{delivered-named}
 use Rattle.runs.specs.Types.{Site, Visit, Asked, Body, Message, Tables, Step, Places, Seen, Decision}
 use Rattle.runs.specs.Walk.Steps.{placesAt, seenAt}
 use Rattle.runs.specs.Walk.Sound.{Sound}
-use Rattle.runs.specs.Operations.Single.{decisionAt, accepted-seen, decision-accepted, single-answer, single-stored}
+use Rattle.runs.specs.Operations.Single.{decisionAt, accepted-seen, decision-accepted, delivery-below, single-answer, single-stored}
 use Rattle.runs.specs.Operations.Definitions.{Stamped}
 
 -- ---- what home sends
@@ -138,14 +137,9 @@ module _ (t : Tables) (m n : ℕ) (asked : Asked) (z : Sound t) (a : isAccepted 
   abbrev Saw : Seen
   Saw = seenAt t (Step.Deliver m)
 
-  mail-below : m < 32
-  unfolding placesOf decideOf
-  mail-below =
-      let l : m ≤ 31 = ltb-false 31 m (delivered-named (messageAt t (m % 32) .body) m Saw (decision-accepted t (Step.Deliver m) a)) in omega arith
-
   -- the delivery looks at the message slot that it names
   mail-here : m % 32 ≡ m
-  mail-here = let l : m < 32 = mail-below in omega arith
+  mail-here = let l : m < 32 = delivery-below t m a in omega arith
 
   decided : decisionAt t (Step.Deliver m) ≡ deliverPhaseOneOf m n asked Saw
   unfolding placesOf decideOf deliverBodyOf
@@ -214,7 +208,7 @@ module _ (t : Tables) (m n : ℕ) (asked : Asked) (z : Sound t) (a : isAccepted 
     unfolding placesOf
     mail-place = mail-here
 
-    reply-sent :
+    back-sent :
         askedAt n asked (mailClock Saw) Saw .message
         ≡ answerMessage
         (askedVisit asked n (mailClock Saw) (Saw .visit))
@@ -223,9 +217,9 @@ module _ (t : Tables) (m n : ℕ) (asked : Asked) (z : Sound t) (a : isAccepted 
         (messageAt t m .handle)
         (mailClock Saw)
     unfolding placesOf
-    reply-sent = rw (away-seen, mail-here)
+    back-sent = rw (away-seen, mail-here)
 
-    replied :
+    sent-back :
         messageAt (stepOf t (Step.Deliver m) .tables) m
         ≡ answerMessage
         (askedVisit asked n (mailClock Saw) (Saw .visit))
@@ -233,11 +227,11 @@ module _ (t : Tables) (m n : ℕ) (asked : Asked) (z : Sound t) (a : isAccepted 
         (passageAt t (slotOf (messageAt t m .handle)) .home)
         (messageAt t m .handle)
         (mailClock Saw)
-    replied =
+    sent-back =
         subst (λ (x : ℕ). messageAt (stepOf t (Step.Deliver m) .tables) x ≡ askedAt n asked (mailClock Saw) Saw .message) mail-place
         (ap (λ (u : Tables). messageAt u (At .message)) asked-left
         ∙ message-after-stored t At (askedAt n asked (mailClock Saw) Saw) (z .sized) (placed-places t (lookOf (Step.Deliver m))))
-        ∙ reply-sent
+        ∙ back-sent
 
     -- an accepted delivery of a phase 1 message away from its passage's home leaves in that message slot the answer:
     -- its number, and the calls received and the quiesce time of the visit as it is left, from the station to home, with the station's clock after it
@@ -251,12 +245,12 @@ module _ (t : Tables) (m n : ℕ) (asked : Asked) (z : Sound t) (a : isAccepted 
         (messageAt t m .handle)
     stamped-when-answered =
         record {
-          place-below = mail-below;
-          body = ap (λ (x : Message). x .body) replied ∙ says;
-          source = ap (λ (x : Message). x .source) replied;
-          destination = ap (λ (x : Message). x .destination) replied;
-          handle = ap (λ (x : Message). x .handle) replied;
-          stamp = ap (λ (x : Message). x .stamp) replied ∙ sym asked-clock;
+          place-below = delivery-below t m a;
+          body = ap (λ (x : Message). x .body) sent-back ∙ says;
+          source = ap (λ (x : Message). x .source) sent-back;
+          destination = ap (λ (x : Message). x .destination) sent-back;
+          handle = ap (λ (x : Message). x .handle) sent-back;
+          stamp = ap (λ (x : Message). x .stamp) sent-back ∙ sym asked-clock;
         }
       where
         says :

@@ -86,6 +86,7 @@ module _ (t : Tables) (ls : ℕ → Ledger) (k : Pledged t ls) (s p : ℕ) (slot
       word-quiet j (Body.PhaseTwo n (Told.Terminate m)) y e = absurd (false≢true e)
       word-quiet j (Body.PhaseTwo n Told.Prepare) y e = hold .mail j .two n Told.Prepare y .1
       word-quiet j (Body.Answer n r q) y e = absurd (false≢true e)
+      word-quiet j (Body.Reply v) y e = absurd (false≢true e)
 
 -- ---- an operation, and a later letting go
 
@@ -203,6 +204,7 @@ called-by t p k step e = go (mailNamed t step .body) refl (and-right (eqb (slotO
     go (Body.PhaseOne n a) y f = absurd (false≢true f)
     go (Body.PhaseTwo n d) y f = absurd (false≢true f)
     go (Body.Answer n r q) y f = absurd (false≢true f)
+    go (Body.Reply v) y f = absurd (false≢true f)
 
 pub operation-before-let-go :
     (x s p k : ℕ) (t : Tables) (step : Step) → p < 16 → Held t → SinceLetGo x s p t → operates t p k step ≡ true

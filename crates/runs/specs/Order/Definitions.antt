@@ -20,7 +20,7 @@ InOrder e f (x ∷ xs) = ((x ≡ e) × Among f xs) ⊎ InOrder e f xs
 -- a read or a write, accepted
 abbrev pub isOperated : EventKind → Bool
 isOperated EventKind.Took = false
-isOperated (EventKind.Operated write answered written) = true
+isOperated (EventKind.Operated write found written) = true
 isOperated EventKind.Freed = false
 
 -- use u of slot p operated object k

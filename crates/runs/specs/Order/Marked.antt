@@ -24,7 +24,7 @@ use Rattle.runs.specs.Times.Clauses.{Holds, sentFigures}
 use Rattle.runs.specs.Times.Store.{leftView}
 use Rattle.runs.specs.Kept.Closing.{closing-binding}
 use Rattle.runs.specs.Kept.Masks.{answered-other, nobody-answers}
-use Rattle.runs.specs.Moves.Definitions.{isAnswer, OpenedFrom, Move, Turn}
+use Rattle.runs.specs.Moves.Definitions.{isAnswer, PlainMail, OpenedFrom, Move, Turn}
 use Rattle.runs.specs.Moves.Laws.{sites-after, made-at-unseen, turned-unmade, quiesce-after, isCrash, quiesce-turned, clock-after-move}
 use Rattle.runs.specs.Commits.Vow.{Vow}
 use Rattle.runs.specs.Commits.VowLaws.{prepare-says}
@@ -142,13 +142,17 @@ module _ (x s : ℕ) where
         word)
 
     -- no answer and no word is left
-    silent-answer :
-        m ≡ noMessage → (n r q : ℕ) → w .passage .round .kind ≡ Kind.Prepare → m .body ≡ Body.Answer n r q → n ≡ w .passage .round .number
+    plain-answer :
+        PlainMail m → (n r q : ℕ) → w .passage .round .kind ≡ Kind.Prepare → m .body ≡ Body.Answer n r q → n ≡ w .passage .round .number
         → m .source ≡ s → x ≤ m .stamp
-    silent-answer e n r q kind body = absurd (false≢true (ap isAnswer (ap (λ (y : Message). y .body) (sym e) ∙ body)))
+    plain-answer z n r q kind body = absurd (true≢false (ap isAnswer (sym body) ∙ z .answer))
 
-    silent-word : m ≡ noMessage → carriesCommit (m .body) ≡ true → x ≤ m .stamp
-    silent-word e y = absurd (false≢true (ap (λ (z : Message). carriesCommit (z .body)) (sym e) ∙ y))
+    plain-word : PlainMail m → carriesCommit (m .body) ≡ true → x ≤ m .stamp
+    plain-word z y = absurd (true≢false (sym y ∙ z .commit))
+
+    -- an emptied slot
+    empty-plain : m ≡ noMessage → PlainMail m
+    empty-plain e = rw e (record { commit = refl; answer = refl })
 
     -- the message stays
     same-answer :
@@ -207,11 +211,11 @@ module _ (x s : ℕ) where
         older j n r q body number source = absurd (omega (arith, h .mail j .answer n r q body .0))
 
     -- an answer comes home: home's clock goes past its stamp
-    heard-collected :
+    heard-kept :
         (n received q : ℕ) → w .mail k .body ≡ Body.Answer n received q → n ≡ w .passage .round .number → a ≡ w .mail k .destination
         → w .mail k .stamp < c → m ≡ noMessage
         → Heard (Left (withRound (w .passage) (withAnswer (w .passage .round) (w .mail k .source) (sentFigures (w .mail k) received q))))
-    heard-collected n received q body number at later e =
+    heard-kept n received q body number at later e =
         heard-alike (withRound (w .passage) (withAnswer (w .passage .round) (w .mail k .source) (sentFigures (w .mail k) received q))) refl refl refl
         (λ kind yes.
         ⊎-elim
@@ -234,8 +238,8 @@ module _ (x s : ℕ) where
         ∙ yes)))
         (same-or-other s (w .mail k .source)))
         (λ kind two. risen w a c (w .passage .home) i (o .tells kind two))
-        (silent-answer e)
-        (silent-word e)
+        (plain-answer (empty-plain e))
+        (plain-word (empty-plain e))
 
     -- a passage that is aborted, or stays
     heard-struck : (aborts : Bool) → m ≡ w .mail k → Heard (Left (cond aborts (abortedPassage (w .passage)) (w .passage)))
@@ -249,14 +253,8 @@ module _ (x s : ℕ) where
 
     heard-moved : {step : Step} (p : Passage) → Move step w a k p v c m → isFree (p .status) ≡ false → Heard (Left p)
     heard-moved p (Move.Rests e y j (inl z)) u = heard-stays p e (same-answer z) (same-word z)
-    heard-moved p (Move.Rests e y j (inr z)) u =
-        heard-stays p e
-        (λ n r q kind body. absurd (true≢false (ap isAnswer (sym body) ∙ z .plain .answer)))
-        (λ y. absurd (true≢false (sym y ∙ z .plain .commit)))
-    heard-moved p (Move.Sends d b e was y j z f) u =
-        heard-stays p e
-        (λ n r q kind body. absurd (true≢false (ap isAnswer (sym body) ∙ z .answer)))
-        (λ y. absurd (true≢false (sym y ∙ z .commit)))
+    heard-moved p (Move.Rests e y j (inr z)) u = heard-stays p e (plain-answer (z .plain)) (plain-word (z .plain))
+    heard-moved p (Move.Sends d b e was y j z f) u = heard-stays p e (plain-answer z) (plain-word z)
     heard-moved p (Move.Tells e y j home two silent word uncalled) u =
         heard-stays p e
         (λ n r q kind body. absurd (true≢false (ap isAnswer (sym body) ∙ silent)))
@@ -275,18 +273,18 @@ module _ (x s : ℕ) where
         (same-answer z)
         (same-word z))
     heard-moved p (Move.Aborts runs e y j z) u = subst (λ (q : Passage). Heard (Left q)) (sym e) (heard-struck true z)
-    heard-moved p (Move.Receives call body at e y early j z) u = heard-stays p e (silent-answer z) (silent-word z)
-    heard-moved p (Move.Replies n asked body e was live below y j silent reply uncalled) u =
+    heard-moved p (Move.Receives call body at e y early j z) u = heard-stays p e (plain-answer (z .plain)) (plain-word (z .plain))
+    heard-moved p (Move.Answers n asked body e was live below y j silent back uncalled) u =
         heard-stays p e
         (λ b r q kind answer number source.
-        let said = reply (ap isAnswer answer) in
+        let said = back (ap isAnswer answer) in
         let here : s ≡ a = sym source ∙ said .0 in
         let late : x ≤ w .clock a = subst (λ (z : ℕ). x ≤ w .clock z) here (o .past) in
         rw (said .2) (omega arith))
         (λ y. absurd (true≢false (sym y ∙ silent)))
-    heard-moved p (Move.Hears n told body e was y j z) u = heard-stays p e (silent-answer z) (silent-word z)
-    heard-moved p (Move.Collects n r q body number at e y j stamp z) u =
-        subst (λ (q : Passage). Heard (Left q)) (sym e) (heard-collected n r q body number at stamp z)
+    heard-moved p (Move.Hears n told body e was y j z) u = heard-stays p e (plain-answer (empty-plain z)) (plain-word (empty-plain z))
+    heard-moved p (Move.Keeps n r q body number at e y j stamp z) u =
+        subst (λ (q : Passage). Heard (Left q)) (sym e) (heard-kept n r q body number at stamp z)
 
     -- a turn leaves the mail; an aborted passage tells nothing
     heard-turned : {trip : Trip} (p : Passage) → m ≡ w .mail k → Turn w a p v trip → Heard (Left p)

@@ -102,7 +102,7 @@ freeing-listed p k (x ∷ xs) e = go (λ f. further (freeing-listed p k xs f)) (
         → heldOver xs p k (cond b (holdAfter kind true) true) ≡ false → Freeing p k (x ∷ xs)
     go rest false y kind z f = rest f
     go rest true y EventKind.Took z f = rest f
-    go rest true y (EventKind.Operated write answered written) z f = rest f
+    go rest true y (EventKind.Operated write found written) z f = rest f
     go rest true y EventKind.Freed z f =
         record {
           event = x;

@@ -267,7 +267,7 @@ operation-or-letting p u k j e y z = go (e .event .kind) (and-right (isOf p u k 
   where
     go : (kind : EventKind) → isOperated kind ≡ true → frees kind ≡ true → ⊥
     go EventKind.Took o f = false≢true o
-    go (EventKind.Operated write answered written) o f = false≢true f
+    go (EventKind.Operated write found written) o f = false≢true f
     go EventKind.Freed o f = false≢true o
 
 -- in every run from the start, in one use u of a slot p: every operation, of any object k, has a smaller stamp than every letting go, of any object j

@@ -80,6 +80,7 @@ body-time (Body.Call c) e = let f : CallFits c = call-range-says c e in omega ar
 body-time (Body.PhaseOne n a) e = both {a = leb n countMost} e λ _ h. asked-time a h
 body-time (Body.PhaseTwo n d) e = both {a = leb n countMost} e λ _ h. told-time d h
 body-time (Body.Answer n received q) e = omega arith
+body-time (Body.Reply value) e = omega arith
 
 module _ (t : Tables) (slot : ℕ) (place : slot < 16) (r : inRange t ≡ true) where
   -- what stands at a station and in a message slot is in range

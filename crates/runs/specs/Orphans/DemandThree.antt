@@ -60,6 +60,7 @@ body-less (Body.Call c) = omega arith
 body-less (Body.PhaseOne n asked) = omega arith
 body-less (Body.PhaseTwo n told) = told-less told
 body-less (Body.Answer n received q) = omega arith
+body-less (Body.Reply value) = omega arith
 
 mail-less : (m : Message) (b : Bool) → cond b (bodyLatest (m .body)) 0 ≤ cond b (bodyAll (m .body)) 0
 mail-less m true = body-less (m .body)

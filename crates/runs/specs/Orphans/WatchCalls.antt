@@ -1,5 +1,5 @@
 -- Steps of a message keep the invariant behind demand 3: invoke, deliver, drop. Assumes nothing.
-use Prim.Native.Nat.{ℕ, zero-le}
+use Prim.Native.Nat.{ℕ, _≤_, zero-le}
 use native.Mathlib.Omega.{arith}
 use mathlib.Core.Path.{_≡_, refl, sym, ap, _∙_, subst}
 use mathlib.Core.Logic.{inl, inr}
@@ -10,12 +10,13 @@ use Rattle.rules.specs.Tables.{siteAt, passageAt, visitAt, messageAt, noMessage
 use Rattle.rules.specs.Answers.{isAccepted, settleOf}
 use Rattle.rules.specs.AnswersLaws.{Fine, accepted-fine}
 use Rattle.rules.specs.FineLaws.{invoke-empty}
-use Rattle.rules.specs.Parts.{isEmpty, nextClock, askedVisit, answerMessage, plainMessage}
-use Rattle.rules.specs.Calls.{callSite, callOf, invokeDone, invokeChecks, mailClock, atHome, replyOf, calledVisit, callChecks, callDone, phaseOneDone, phaseTwoDone, answerDone, emptyOf, deliverCallOf, deliverPhaseOneOf, deliverPhaseTwoOf, deliverAnswerOf, deliverBodyOf, lost}
+use Rattle.rules.specs.Parts.{isEmpty, clockTo, nextClock, askedVisit, answerMessage, plainMessage}
+use Rattle.rules.specs.Seen.{leftSite, leftMessage}
+use Rattle.rules.specs.Calls.{callSite, callOf, invokeDone, invokeChecks, mailClock, atHome, answerBack, calledVisit, callChecks, replyTo, callDone, replyDone, phaseOneDone, phaseTwoDone, answerDone, emptyOf, deliverCallOf, deliverPhaseOneOf, deliverPhaseTwoOf, deliverAnswerOf, deliverReplyOf, deliverBodyOf, lost}
 use Rattle.rules.specs.Machine.{seenOf}
-use Rattle.runs.specs.Types.{Visit, Call, Asked, Told, Body, Message, Tables, Places, Seen, Decision}
+use Rattle.runs.specs.Types.{Site, Visit, Call, Asked, Told, Body, Message, Tables, Places, Seen, Decision}
 use Rattle.runs.specs.Times.View.{View, viewOf}
-use Rattle.runs.specs.Times.Store.{own-body, reply-own}
+use Rattle.runs.specs.Times.Store.{own-body, back-own}
 use Rattle.runs.specs.Orphans.WatchKept.{BodyKeeps}
 use Rattle.runs.specs.Orphans.WatchMailKept.{mail-after-same, mail-after-empty, mail-after-seen}
 use Rattle.runs.specs.Orphans.WatchPassageKept.{passage-after-same, passage-after-answered, asked-home, told-home}
@@ -55,6 +56,29 @@ watch-after-invoked latest t at h site write object value place own fine =
     there : visitAt t (at .site) (at .slot) .there ≡ true
     there = not-false _ (fine .there)
 
+-- ---- drop, and a reply: the message is gone, and the site's clock does not go back
+
+watch-after-emptied :
+    (latest : ℕ) (t : Tables) (at : Places) (site : Site) → slotOf (messageAt t (at .message) .handle) ≡ at .slot → siteAt t (at .site) .clock ≤ site .clock
+    → KeepsWatch latest t at (leftMessage (leftSite (seenOf t at) site) noMessage)
+watch-after-emptied latest t at site own i =
+    record {
+      clock = i;
+      mail = inr (inr own, inl refl);
+      own =
+          λ e.
+          record {
+            passage = passage-after-same latest (viewOf t (at .slot)) e;
+            visit = visit-after-same latest (viewOf t (at .slot)) (at .site);
+            mail = mail-after-empty latest (viewOf t (at .slot));
+          };
+    }
+
+pub watch-after-lost :
+    (latest : ℕ) (t : Tables) (at : Places) → slotOf (messageAt t (at .message) .handle) ≡ at .slot
+    → KeepsWatch latest t at (lost (seenOf t at))
+watch-after-lost latest t at own = watch-after-emptied latest t at (siteAt t (at .site)) own (omega arith)
+
 -- ---- deliver: the message was the slot's own
 
 module _ (latest : ℕ) (t : Tables) (at : Places) (m : ℕ) (own : slotOf (messageAt t (at .message) .handle) ≡ at .slot) where
@@ -79,7 +103,7 @@ module _ (latest : ℕ) (t : Tables) (at : Places) (m : ℕ) (own : slotOf (mess
   watch-after-call c body fine =
       record {
         clock = omega arith;
-        mail = inr (inr own, inl refl);
+        mail = inr (inr own, inr own);
         own =
             λ e.
             record {
@@ -94,13 +118,14 @@ module _ (latest : ℕ) (t : Tables) (at : Places) (m : ℕ) (own : slotOf (mess
                   (omega arith)
                   (watch-after-letter (Body.Call c) body refl)
                   (leb-false _ _ (or-left _ (calledVisit c (visitAt t (at .site) (at .slot)) .dead) (fine .early)));
-              mail = mail-after-empty latest view;
+              -- the reply brings no time
+              mail = mail-after-seen latest view (at .slot) (replyTo c (mailClock seen) seen) (record { plain = λ h. refl; bounded = λ h b. zero-le });
             };
       }
 
   -- the answer brings no time
-  watch-after-reply : (v : Visit) → BodyKeeps latest view (replyOf v (mailClock seen) seen .body)
-  watch-after-reply v =
+  watch-after-back : (v : Visit) → BodyKeeps latest view (answerBack v (mailClock seen) seen .body)
+  watch-after-back v =
       cond-keeps
       (λ (x : Message). BodyKeeps latest view (x .body))
       (atHome seen)
@@ -114,13 +139,13 @@ module _ (latest : ℕ) (t : Tables) (at : Places) (m : ℕ) (own : slotOf (mess
   watch-after-phase-one n asked body =
       record {
         clock = omega arith;
-        mail = inr (inr own, reply-own (at .slot) (mailClock seen) asks seen own);
+        mail = inr (inr own, back-own (at .slot) (mailClock seen) asks seen own);
         own =
             λ e.
             record {
               passage = asked-home latest view (atHome seen) n asked says e;
               visit = visit-after-asked latest view (at .site) n (mailClock seen) asked says;
-              mail = mail-after-seen latest view (at .slot) (replyOf asks (mailClock seen) seen) (watch-after-reply asks);
+              mail = mail-after-seen latest view (at .slot) (answerBack asks (mailClock seen) seen) (watch-after-back asks);
             };
       }
     where
@@ -176,27 +201,12 @@ module _ (latest : ℕ) (t : Tables) (at : Places) (m : ℕ) (own : slotOf (mess
   pub watch-after-delivered :
       (b : Body) → letter .body ≡ b → isAccepted (deliverBodyOf b m seen .answer) ≡ true
       → KeepsWatch latest t at (deliverBodyOf b m seen .left)
-  unfolding deliverBodyOf emptyOf deliverCallOf deliverPhaseOneOf deliverPhaseTwoOf deliverAnswerOf
+  unfolding deliverBodyOf emptyOf deliverCallOf deliverPhaseOneOf deliverPhaseTwoOf deliverAnswerOf deliverReplyOf
   watch-after-delivered Body.Empty e y = absurd (true≢false (sym (ap isEmpty e) ∙ accepted-fine _ 0 y .found))
   watch-after-delivered (Body.Call c) e y = watch-after-settled-delivery (callDone m c seen) y (watch-after-call c e (accepted-fine _ _ y))
   watch-after-delivered (Body.PhaseOne n asked) e y = watch-after-settled-delivery (phaseOneDone m n asked seen) y (watch-after-phase-one n asked e)
   watch-after-delivered (Body.PhaseTwo n told) e y = watch-after-settled-delivery (phaseTwoDone m n told seen) y (watch-after-phase-two n told e)
   watch-after-delivered (Body.Answer n received q) e y = watch-after-settled-delivery (answerDone m n received q seen) y (watch-after-answer n received q)
-
--- ---- drop: the message is lost
-
-pub watch-after-lost :
-    (latest : ℕ) (t : Tables) (at : Places) → slotOf (messageAt t (at .message) .handle) ≡ at .slot
-    → KeepsWatch latest t at (lost (seenOf t at))
-watch-after-lost latest t at own =
-    record {
-      clock = omega arith;
-      mail = inr (inr own, inl refl);
-      own =
-          λ e.
-          record {
-            passage = passage-after-same latest (viewOf t (at .slot)) e;
-            visit = visit-after-same latest (viewOf t (at .slot)) (at .site);
-            mail = mail-after-empty latest (viewOf t (at .slot));
-          };
-    }
+  watch-after-delivered (Body.Reply value) e y =
+      watch-after-settled-delivery (replyDone m value seen) y
+      (watch-after-emptied latest t at (clockTo (siteAt t (at .site)) (mailClock seen)) own (omega arith))

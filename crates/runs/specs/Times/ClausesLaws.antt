@@ -23,11 +23,14 @@ tellsRefresh Told.Prepare = false
 
 -- ---- what can do no harm to a quiet passage: anything but a call and a refresh's word
 
+uncalled-quiet : {l : Ledger} {d : ℕ} (b : Body) → bodyKind b ≢ 1 → bodyKind b ≢ 3 → QuietMail l d b
+uncalled-quiet b call word = record { call = λ c e. call (ap bodyKind e); late = λ n q e. absurd (word (ap bodyKind e)) }
+
 pub empty-quiet : {l : Ledger} {d : ℕ} → QuietMail l d Body.Empty
-empty-quiet = record { call = λ c e. absurd (omega (arith, ap bodyKind e)); late = λ n q e. absurd (omega (arith, ap bodyKind e)) }
+empty-quiet = uncalled-quiet Body.Empty (λ e. omega arith) (λ e. omega arith)
 
 pub one-quiet : {l : Ledger} {d n : ℕ} {a : Asked} → QuietMail l d (Body.PhaseOne n a)
-one-quiet = record { call = λ c e. absurd (omega (arith, ap bodyKind e)); late = λ n q e. absurd (omega (arith, ap bodyKind e)) }
+one-quiet {n = n} {a} = uncalled-quiet (Body.PhaseOne n a) (λ e. omega arith) (λ e. omega arith)
 
 pub two-quiet : {l : Ledger} {d n : ℕ} {told : Told} → tellsRefresh told ≡ false → QuietMail l d (Body.PhaseTwo n told)
 two-quiet {told = told} other =
@@ -37,19 +40,29 @@ two-quiet {told = told} other =
     }
 
 pub answer-quiet : {l : Ledger} {d n r q : ℕ} → QuietMail l d (Body.Answer n r q)
-answer-quiet = record { call = λ c e. absurd (omega (arith, ap bodyKind e)); late = λ n q e. absurd (omega (arith, ap bodyKind e)) }
+answer-quiet {n = n} {r} {q} = uncalled-quiet (Body.Answer n r q) (λ e. omega arith) (λ e. omega arith)
+
+pub reply-quiet : {l : Ledger} {d v : ℕ} → QuietMail l d (Body.Reply v)
+reply-quiet {v = v} = uncalled-quiet (Body.Reply v) (λ e. omega arith) (λ e. omega arith)
 
 -- ---- a clause of a message of one kind
 
 module _ {w : View} {l : Ledger} {m : Message} where
-  pub empty-clause : BodyFine w l m Body.Empty
-  empty-clause =
+  -- of an empty slot and of a reply nothing is said
+  unsaid-clause : (b : Body) → ((n : ℕ) → 1 ≤ n → n ≤ 4 → bodyKind b ≢ n) → BodyFine w l m b
+  unsaid-clause b other =
       record {
-        call = λ c e. absurd (omega (arith, ap bodyKind e));
-        one = λ n a e. absurd (omega (arith, ap bodyKind e));
-        two = λ n d e. absurd (omega (arith, ap bodyKind e));
-        answer = λ n r q e. absurd (omega (arith, ap bodyKind e));
+        call = λ c e. absurd (other 1 (omega arith) (omega arith) (ap bodyKind e));
+        one = λ n a e. absurd (other 2 (omega arith) (omega arith) (ap bodyKind e));
+        two = λ n d e. absurd (other 3 (omega arith) (omega arith) (ap bodyKind e));
+        answer = λ n r q e. absurd (other 4 (omega arith) (omega arith) (ap bodyKind e));
       }
+
+  pub empty-clause : BodyFine w l m Body.Empty
+  empty-clause = unsaid-clause Body.Empty (λ n i j e. omega arith)
+
+  pub reply-clause : {v : ℕ} → BodyFine w l m (Body.Reply v)
+  reply-clause {v} = unsaid-clause (Body.Reply v) (λ n i j e. omega arith)
 
   pub call-clause : {c : Call} → CallFine w l m c → BodyFine w l m (Body.Call c)
   call-clause {c} f =

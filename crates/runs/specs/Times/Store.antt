@@ -10,7 +10,7 @@ use Rattle.rules.specs.Tables.{siteAt, visitAt, messageAt, noMessage, slotOf}
 use Rattle.rules.specs.Answers.{isAccepted, settleOf}
 use Rattle.rules.specs.AnswersLaws.{settle-accepted}
 use Rattle.rules.specs.Parts.{isFree, isEmpty, answerMessage}
-use Rattle.rules.specs.Calls.{atHome, replyOf}
+use Rattle.rules.specs.Calls.{atHome, answerBack}
 use Rattle.rules.specs.Machine.{seenOf, stored}
 use Rattle.rules.specs.LoopsLaws.{either, cond-keeps}
 use Rattle.rules.specs.StoredLaws.{Sized, Placed, visit-place-same, site-after-stored, passage-after-stored, visit-after-stored, message-after-stored, site-after-stored-other, passage-after-stored-other, visit-after-stored-other, message-after-stored-other}
@@ -70,9 +70,9 @@ other-mail p q m (inr e) n = hidden (isEmpty (m .body)) (ne-eqb (slotOf (m .hand
     hidden false y = rw y
 
 -- the answer to a message of slot p, if one goes out, is of p too
-pub reply-own :
-    (p clock : ℕ) (v : Visit) (seen : Seen) → slotOf (seen .message .handle) ≡ p → Own p (replyOf v clock seen)
-reply-own p clock v seen e =
+pub back-own :
+    (p clock : ℕ) (v : Visit) (seen : Seen) → slotOf (seen .message .handle) ≡ p → Own p (answerBack v clock seen)
+back-own p clock v seen e =
     cond-keeps
     (Own p)
     (atHome seen)

@@ -2,7 +2,7 @@
 use Prim.Native.Nat.{ℕ, _+_, _<_, zero, suc}
 use native.Mathlib.Omega.{arith}
 use native.Mathlib.Nat.{not-suc-le-zero, ne-of-lt}
-use mathlib.Core.Path.{_≡_, refl, sym}
+use mathlib.Core.Path.{_≡_, refl, sym, _∙_}
 use mathlib.Core.Logic.{_≢_, ⊎-elim, _⊎_, inl, inr}
 use mathlib.Core.Bool.{cond}
 use mathlib.Core.List.{List, [], _∷_}
@@ -41,6 +41,12 @@ everywhere h = λ i s. h s i
 -- to put back what is there changes nothing
 pub put-back : {A : Type 0} (f : ℕ → A) (a : ℕ) (x : A) → x ≡ f a → put f a x ≡ f
 put-back f a x e = everywhere (put-all f a x (λ s y. y ≡ f s) e (λ s n. refl))
+
+-- what is put twice at one place is there as it was put last
+pub put-again : {A : Type 0} (f : ℕ → A) (a : ℕ) (x y : A) → put (put f a x) a y ≡ put f a y
+put-again f a x y =
+    everywhere
+    (put-all (put f a x) a y (λ s z. z ≡ put f a y s) (sym (put-same f a y)) (λ s n. put-other f a x s n ∙ sym (put-other f a y s n)))
 
 -- a place is a, or another
 pub same-or-other : (s a : ℕ) → (s ≡ a) ⊎ (s ≢ a)

@@ -64,13 +64,14 @@ toldTime Told.Prepare = 0
 
 -- ---- what a message says
 
--- what it is: 0 nothing, 1 a call, 2 and 3 a round's two phases, 4 an answer
+-- what it is: 0 nothing, 1 a call, 2 and 3 a round's two phases, 4 an answer, 5 a reply
 abbrev pub bodyKind : Body → ℕ
 bodyKind Body.Empty = 0
 bodyKind (Body.Call c) = 1
 bodyKind (Body.PhaseOne n a) = 2
 bodyKind (Body.PhaseTwo n d) = 3
 bodyKind (Body.Answer n received q) = 4
+bodyKind (Body.Reply value) = 5
 
 -- by what a call, a phase 1 and a phase 2 message say; any other says nothing
 abbrev pub bySaying : {A : Type 0} → A → (Call → A) → (Asked → A) → (Told → A) → Body → A
@@ -79,18 +80,20 @@ bySaying nothing call asked told (Body.Call c) = call c
 bySaying nothing call asked told (Body.PhaseOne n a) = asked a
 bySaying nothing call asked told (Body.PhaseTwo n d) = told d
 bySaying nothing call asked told (Body.Answer n received q) = nothing
+bySaying nothing call asked told (Body.Reply value) = nothing
 
 -- the times that a message may still bring to a visit: those of a call, the new release of a refresh's phase 1, the new quiesce of its phase 2
 abbrev pub bodyLatest : Body → ℕ
 bodyLatest = bySaying 0 (λ c. max (c .quiesce) (c .release)) askedRelease toldQuiesce
 
--- every quiesce or release time in a message: an answer's quiesce time and a terminate's M too
+-- every quiesce or release time in a message: an answer's quiesce time and a terminate's M too; a reply carries none
 abbrev pub bodyAll : Body → ℕ
 bodyAll Body.Empty = 0
 bodyAll (Body.Call c) = max (c .quiesce) (c .release)
 bodyAll (Body.PhaseOne n asked) = askedRelease asked
 bodyAll (Body.PhaseTwo n told) = toldTime told
 bodyAll (Body.Answer n received q) = q
+bodyAll (Body.Reply value) = 0
 
 -- a message of a commit round, of either phase
 abbrev pub ofCommit : Body → Bool

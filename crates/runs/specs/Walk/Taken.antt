@@ -26,7 +26,7 @@ use Rattle.runs.specs.Operations.Single.{decisionAt, decision-accepted, 
 -- ---- tables in range
 
 -- a step whose own store is accepted is accepted
-accepted-with-head :
+pub accepted-with-head :
     (t : Tables) (step : Step) → inRange t ≡ true → isAccepted (headOf t step .answer) ≡ true
     → isAccepted (stepOf t step .answer) ≡ true
 unfolding stepOf stepInRangeOf

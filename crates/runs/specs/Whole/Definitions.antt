@@ -9,11 +9,11 @@ use Rattle.rules.specs.Machine.{stepOf}
 use Rattle.rules.specs.Record.{flatOf}
 use Rattle.rules.specs.Runs.{runOf, historyOf}
 use Rattle.rules.specs.Events.{isHolding}
-use Rattle.runs.specs.Types.{Status, Call, Body, Tables, Step, Answer}
+use Rattle.runs.specs.Types.{Status, Call, Body, Tables, Step}
 use Rattle.runs.specs.Orphans.Orphans.{isRetired}
 use Rattle.runs.specs.Orphans.Widths.{restOf}
 use Rattle.runs.specs.Promises.Definitions.{Promised}
-use Rattle.runs.specs.Operations.Definitions.{mailNamed, operates, isWrite, InvokedInto, DoneAsSaid}
+use Rattle.runs.specs.Operations.Definitions.{mailNamed, operates, isWrite, Finds, InvokedInto, RepliedInto, DoneAsSaid}
 
 -- ---- what a commit rests on, and what it lets stand
 
@@ -61,21 +61,30 @@ pub record DidAsSaid (t : Tables) (m h b k u : ℕ) (steps : List Step) : Type 0
   pub waits : messageAt (runOf t first) m ≡ messageAt t m
   pub done : DoneAsSaid (runOf t first) h b k u (Step.Deliver m)
 
--- after the steps ss from t₀: an accepted invoke among them answered message slot m, and what stands there is what it left
-pub record SentBefore (t₀ : Tables) (ss : List Step) (m : ℕ) : Type 0 where
+-- after the steps ss from t₀: among them is a step of this kind, and what stands in message slot m is what it left
+pub record CameBefore (Into : Tables → Step → Type 0) (t₀ : Tables) (ss : List Step) (m : ℕ) : Type 0 where
   pub first : List Step
   pub step : Step
   pub rest : List Step
   pub all : ss ≡ first ++ step ∷ rest
-  pub invoked : InvokedInto (runOf t₀ first) step m
+  pub by : Into (runOf t₀ first) step
   pub waits : messageAt (runOf t₀ ss) m ≡ messageAt (stepOf (runOf t₀ first) step .tables) m
+
+-- an accepted invoke among them answered the slot, and its call has waited there since
+abbrev pub SentBefore : Tables → List Step → ℕ → Type 0
+SentBefore t₀ ss m = CameBefore (λ t step. InvokedInto t step m) t₀ ss m
+
+-- an accepted delivery among them, of a call in the slot, found v: the object had v before it. Its reply has waited there since
+pub record RepliedBefore (t₀ : Tables) (ss : List Step) (m v : ℕ) : Type 0 where
+  pub came : CameBefore (λ t step. RepliedInto t step m) t₀ ss m
+  pub found : objectAt (runOf t₀ (came .first)) (came .by .call .object) .value ≡ v
 
 -- an operation after the steps ss does what an invoke among them said, for the same slot
 pub record WasInvoked (t₀ : Tables) (ss : List Step) (p k : ℕ) (s : Step) : Type 0 where
   pub sent : SentBefore t₀ ss (flatOf s .c % 32)
-  pub slot : slotOf (sent .invoked .handle) ≡ p
-  pub object : sent .invoked .object ≡ k
-  pub done : DoneAsSaid (runOf t₀ ss) (sent .invoked .handle) (sent .invoked .operation) (sent .invoked .object) (sent .invoked .value) s
+  pub slot : slotOf (sent .by .handle) ≡ p
+  pub object : sent .by .object ≡ k
+  pub done : DoneAsSaid (runOf t₀ ss) (sent .by .handle) (sent .by .operation) (sent .by .object) (sent .by .value) s
 
 -- ---- what was read
 
@@ -93,8 +102,8 @@ unfoldable pub writtenIn : Tables → ℕ → ℕ → List Step → Bool
 writtenIn t p k [] = false
 writtenIn t p k (s ∷ ss) = writes t p k s || writtenIn (stepOf t s .tables) p k ss
 
--- among these steps from t₀ slot p read object k, by an accepted delivery that answered v; since then it has not written k, and its slot is not retired.
--- (What it did to k before that read does not matter: the read answered what it had left there.)
+-- among these steps from t₀ slot p read object k, by an accepted delivery that found v; since then it has not written k, and its slot is not retired.
+-- (What it did to k before that read does not matter: the read found what it had left there.)
 pub record HasRead (t₀ : Tables) (steps : List Step) (p k v : ℕ) : Type 0 where
   pub before : List Step
   pub read : Step
@@ -102,6 +111,6 @@ pub record HasRead (t₀ : Tables) (steps : List Step) (p k v : ℕ) : Type 0 wh
   pub all : steps ≡ before ++ read ∷ since
   pub operated : operates (runOf t₀ before) p k read ≡ true
   pub reads : isWrite (mailNamed (runOf t₀ before) read .body) ≡ false
-  pub answered : stepOf (runOf t₀ before) read .answer ≡ Answer.Accepted v
+  pub found : Finds (runOf t₀ before) read v
   pub unwritten : writtenIn (stepOf (runOf t₀ before) read .tables) p k since ≡ false
   pub same-use : isRetired p (historyOf (runOf t₀ before) (read ∷ since)) ≡ false

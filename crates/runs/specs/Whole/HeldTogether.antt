@@ -1,5 +1,5 @@
 -- What a check that commits has read was so together: at any one moment before its commit, that of its prepare for one,
--- every object that it had read by then, and had not written since, was held by it with the value that the read answered.
+-- every object that it had read by then, and had not written since, was held by it with the value that the read found.
 -- The idea: from the read on the passage holds the object with that value, for while it holds it nobody else writes it; or it has let it go,
 -- and a passage that has let something go is committed already, or has a station that will not answer, and so does not become committed.
 -- Assumes nothing.
@@ -11,13 +11,13 @@ use mathlib.Core.List.{List, [], _∷_, _++_}
 use Rattle.rules.specs.declared.tables.Object.{Object}
 use Rattle.rules.specs.LoopsLaws.{either, or-left, or-right}
 use Rattle.rules.specs.Tables.{objectAt, passageAt, objectSite}
-use Rattle.rules.specs.Answers.{isAccepted, answerValue}
+use Rattle.rules.specs.Answers.{isAccepted}
 use Rattle.rules.specs.Parts.{isHeldBy}
 use Rattle.rules.specs.Machine.{stepOf}
 use Rattle.rules.specs.Record.{isStep}
 use Rattle.rules.specs.Runs.{Started, runOf, historyOf}
 use Rattle.rules.specs.Events.{isHolding}
-use Rattle.runs.specs.Types.{Status, Tables, Step, Answer}
+use Rattle.runs.specs.Types.{Status, Tables, Step}
 use Rattle.runs.specs.Walk.Steps.{run-on}
 use Rattle.runs.specs.Walk.Sound.{Sound}
 use Rattle.runs.specs.Times.View.{Ledger}
@@ -25,8 +25,8 @@ use Rattle.runs.specs.Times.Ledgers.{ledgersOf}
 use Rattle.runs.specs.Holders.Holders.{held-run, held-step, held-below}
 use Rattle.runs.specs.Orphans.Orphans.{isRetired}
 use Rattle.runs.specs.Events.HoldSteps.{and-false}
-use Rattle.runs.specs.Operations.Definitions.{mailNamed, operates, isWrite}
-use Rattle.runs.specs.Operations.Operated.{operated-is-held, operated-reads, operated-read-leaves}
+use Rattle.runs.specs.Operations.Definitions.{mailNamed, operates, isWrite, Finds}
+use Rattle.runs.specs.Operations.Operated.{operated-is-held, found-before, operated-read-leaves}
 use Rattle.runs.specs.Operations.HeldObject.{HeldAfter, held-object-after-step, value-while-held}
 use Rattle.runs.specs.Commits.Pledged.{Pledged, pledged-after-step, pledged-run}
 use Rattle.runs.specs.Commits.Since.{not-retired}
@@ -37,15 +37,15 @@ use Rattle.runs.specs.Whole.RestsOn.{HasLetGo, let-go-carried, bound-at-
 
 -- ---- from the read on
 
--- after a read its passage holds the object with the value that was answered
+-- after a read its passage holds the object with the value that was found
 held-after-read :
     (t : Tables) (p k v : ℕ) (s : Step) → Sound t → operates t p k s ≡ true → isWrite (mailNamed t s .body) ≡ false
-    → stepOf t s .answer ≡ Answer.Accepted v
+    → Finds t s v
     → HeldWith (stepOf t s .tables) p k v
-held-after-read t p k v s z e reads answered =
+held-after-read t p k v s z e reads found =
     record {
       holds = operated-is-held t p k s z e;
-      value = operated-read-leaves t p k s z e reads ∙ ap answerValue (sym (operated-reads t p k s z e) ∙ answered);
+      value = operated-read-leaves t p k s z e reads ∙ found-before t p k s z e v found;
     }
 
 module _ (p k : ℕ) (slot : p < 16) where
@@ -117,7 +117,7 @@ reader-below {t₀} fresh steps p k v x =
     let held = held-run fresh (x .before) in
     held-below (stepOf t (x .read) .tables) p k (held-step t (x .read) held) (operated-is-held t p k (x .read) (held .sound) (x .operated)) .0
 
--- what it has read it still holds, with the value that was answered, or it has let it go
+-- what it has read it still holds, with the value that was found, or it has let it go
 since-read :
     {t₀ : Tables} → Started t₀ → (steps : List Step) (p k v : ℕ) → HasRead t₀ steps p k v
     → HeldWith (runOf t₀ steps) p k v ⊎ HasLetGo p k (runOf t₀ steps)
@@ -131,12 +131,12 @@ since-read {t₀} fresh steps p k v x =
     (sym (ap (runOf t₀) (x .all) ∙ run-on t₀ (x .before) (x .read ∷ x .since)))
     (held-or-let-go p k (reader-below fresh steps p k v x) v (stepOf t (x .read) .tables) _ (x .since)
     (pledged-after-step t (x .read) (ledgersOf t₀ (x .before)) pledged)
-    (held-after-read t p k v (x .read) z (x .operated) (x .reads) (x .answered))
+    (held-after-read t p k v (x .read) z (x .operated) (x .reads) (x .found))
     (x .unwritten)
     (not-retired p t (x .read) (x .since) (x .same-use) .1))
 
 -- at any moment of a run, after the steps first: if p becomes committed by a later step and its slot is not retired until then,
--- every object that it had read and not written since is held by it there, with the value that the read answered
+-- every object that it had read and not written since is held by it there, with the value that the read found
 pub held-until-commit :
     {t₀ : Tables} → Started t₀ → (first rest : List Step) (commit : Step) (p : ℕ)
     → isRetired p (historyOf (runOf t₀ first) rest) ≡ false
@@ -156,7 +156,7 @@ held-until-commit {t₀} fresh first rest commit p kept not-yet committed k v x 
     (since-read fresh first p k v x)
 
 -- so of a prepare, and a later step by which p becomes committed, its slot not retired until then: in the tables before that prepare
--- p holds every object that it had read and not written since, with the value that the read answered; and so in the tables after it.
+-- p holds every object that it had read and not written since, with the value that the read found; and so in the tables after it.
 -- (Nothing is asked of the prepare: neither whose it is, nor that it is accepted, nor that no other follows it. So p's own accepted one is a case of it.)
 pub committed-held-together :
     {t₀ : Tables} → Started t₀ → (first : List Step) (h : ℕ) (rest : List Step) (commit : Step) (p : ℕ)

@@ -111,13 +111,12 @@ module _ (d : ℕ) (w : View) (l : Ledger) (h : Holds w l) (a k source : ℕ) (v
 
   short-received :
       (p : Passage) (c : ℕ) (call : Call) → w .mail k .body ≡ Body.Call call → a ≡ w .mail k .destination
-      → (w .visit a .there ≡ false → v .there ≡ true → l a .seen ≡ false) → v ≡ countReceived (calledVisit call (w .visit a)) → m ≡ noMessage
+      → (w .visit a .there ≡ false → v .there ≡ true → l a .seen ≡ false) → v ≡ countReceived (calledVisit call (w .visit a)) → callTo d m ≡ 0
       → Short d w l → Short d (leftView w a k p v c m) (ledgerNoted l a source v)
-  short-received p c call body at unseen is lost short =
+  short-received p c call body at unseen is none short =
       let s : sumUpTo (λ j. sentBy d (l j)) 8 ≤ sumUpTo (λ j. sentBy d (ledgerNoted l a source v j)) 8 = sum-le _ _ 8 (λ j. grown j .0) in
       let f : sumUpTo (λ j. callTo d (put (w .mail) k m j)) 32 + callTo d (w .mail k) ≡ callsTo w d + callTo d m =
       sum-over-put (callTo d) (w .mail) k m 32 (call-places w l h k call body .0) in
-      let none : callTo d m ≡ 0 = rw lost in
       let r : receivedBy (ledgerNoted l a source v d) ≤ receivedBy (l d) + callTo d (w .mail k) = grown d .1 in
       omega (arith, short)
     where
@@ -220,8 +219,8 @@ module _ (d : ℕ) where
       short-received d w l h a k source v m p c call body at
       (λ gone there. made-at-unseen {step = Step.Recover 0} {p = p} l h (Move.Receives call body at e x early i z) gone there)
       x
-      z
-  short-moved {w = w} {a} {k} {c} {p} {v} {m} l source h was now (Move.Replies n asked body e there live below x i silent reply uncalled) =
+      (z .none d)
+  short-moved {w = w} {a} {k} {c} {p} {v} {m} l source h was now (Move.Answers n asked body e there live below x i silent back uncalled) =
       short-even d w l h a k source v m p c
       (λ s. let y = asked-even asked n c (w .visit a) in (there, ap (λ (u : Visit). u .received) x ∙ y .0, ap (λ (u : Visit). u .sent) x ∙ y .1))
       (no-call (w .mail k) m (uncalled d))
@@ -229,7 +228,7 @@ module _ (d : ℕ) where
       short-even d w l h a k source v m p c
       (λ s. rw x (told-even told (w .visit a) (ap (λ (u : Visit). u .there) (sym x) ∙ s)))
       (lost-call (w .mail k) m z)
-  short-moved {w = w} {a} {k} {c} {p} {v} {m} l source h was now (Move.Collects n r q body number at e x i stamp z) =
+  short-moved {w = w} {a} {k} {c} {p} {v} {m} l source h was now (Move.Keeps n r q body number at e x i stamp z) =
       short-even d w l h a k source v m p c (same-even (w .visit a) v x) (lost-call (w .mail k) m z)
 
   short-turned :

@@ -60,11 +60,11 @@ dead-moved {w = w} {a = a} {v = v} l h (Move.Closes home one closed e x i z fits
 dead-moved {w = w} {a = a} l h (Move.Aborts runs e x i z) was there dead = ap (λ (u : Visit). u .dead) (x ∙ where-is (w .visit a) _ was) ∙ dead
 dead-moved {w = w} {a = a} l h (Move.Receives call body at e x early i z) was there dead =
     ap (λ (u : Visit). u .dead) x ∙ when-true (λ (u : Visit). u .dead ≡ true) (w .visit a .there) (w .visit a) _ was dead
-dead-moved {w = w} {a = a} {c = c} l h (Move.Replies n asked body e was live below x i silent reply uncalled) there now dead =
+dead-moved {w = w} {a = a} {c = c} l h (Move.Answers n asked body e was live below x i silent back uncalled) there now dead =
     ap (λ (u : Visit). u .dead) x ∙ asked-dead asked n c (w .visit a) ∙ dead
 dead-moved {w = w} {a = a} l h (Move.Hears n told body e was x i z) there now dead =
     ap (λ (u : Visit). u .dead) x ∙ marks-told told (w .visit a) (ap (λ (u : Visit). u .there) (sym x) ∙ now) .1 ∙ dead
-dead-moved l h (Move.Collects n r q body number at e x i stamp z) was there dead = ap (λ (u : Visit). u .dead) x ∙ dead
+dead-moved l h (Move.Keeps n r q body number at e x i stamp z) was there dead = ap (λ (u : Visit). u .dead) x ∙ dead
 
 dead-turned :
     {w : View} {a : ℕ} {p : Passage} {v : Visit} {trip : Trip} → Turn w a p v trip
@@ -89,9 +89,9 @@ home-moved (Move.Opens kind from home there e x i z) was now = ap (λ (q : Passa
 home-moved (Move.Closes home one closed e x i z fits) was now = ap (λ (q : Passage). q .home) e
 home-moved (Move.Aborts runs e x i z) was now = ap (λ (q : Passage). q .home) e
 home-moved (Move.Receives call body at e x early i z) was now = ap (λ (q : Passage). q .home) e
-home-moved (Move.Replies n asked body e there live below x i silent reply uncalled) was now = ap (λ (q : Passage). q .home) e
+home-moved (Move.Answers n asked body e there live below x i silent back uncalled) was now = ap (λ (q : Passage). q .home) e
 home-moved (Move.Hears n told body e there x i z) was now = ap (λ (q : Passage). q .home) e
-home-moved (Move.Collects n r q body number at e x i stamp z) was now = ap (λ (q : Passage). q .home) e
+home-moved (Move.Keeps n r q body number at e x i stamp z) was now = ap (λ (q : Passage). q .home) e
 
 home-turned : {w : View} {a : ℕ} {p : Passage} {v : Visit} {trip : Trip} → Turn w a p v trip → p .home ≡ w .passage .home
 home-turned (Turn.Stays trip e x) = ap (λ (q : Passage). q .home) e

@@ -16,7 +16,7 @@ use Rattle.rules.specs.PartsLaws.{unheld-not-held, let-go-unheld}
 use Rattle.rules.specs.Machine.{stepOf}
 use Rattle.rules.specs.Runs.{Started, runOf, historyOf}
 use Rattle.rules.specs.Events.{isHolding}
-use Rattle.runs.specs.Types.{Status, Tables, Step, Answer}
+use Rattle.runs.specs.Types.{Status, Body, Tables, Step}
 use Rattle.runs.specs.Walk.Says.{isBinding}
 use Rattle.runs.specs.Walk.Steps.{run-on}
 use Rattle.runs.specs.Times.View.{Ledger, viewOf}
@@ -29,8 +29,8 @@ use Rattle.runs.specs.Orphans.Widths.{restOf}
 use Rattle.runs.specs.Orphans.Rests.{standing}
 use Rattle.runs.specs.Orphans.RestSteps.{standing-after-step}
 use Rattle.runs.specs.Orphans.Undone.{rest-is-standing, value-is-rest}
-use Rattle.runs.specs.Operations.Definitions.{operates}
-use Rattle.runs.specs.Operations.Operated.{operated-below, operated-was-free-or-own, operated-is-held, operated-reads, standing-after-operated}
+use Rattle.runs.specs.Operations.Definitions.{operates, Finds}
+use Rattle.runs.specs.Operations.Operated.{operated-below, operated-was-free-or-own, operated-is-held, operated-finds, standing-after-operated}
 use Rattle.runs.specs.Commits.Pledged.{Pledged, pledged-after-step, pledged-run}
 use Rattle.runs.specs.Commits.Since.{not-retired, step-carried}
 use Rattle.runs.specs.Commits.Over.{StatusIs, NoWay, over-carries, ClosesCommit, committed-by-closing}
@@ -161,14 +161,14 @@ commit-rests-on-what-stands {t₀} fresh before s between commit p k e r not-yet
         }))
         (not-retired p (runOf t₀ before) s between r .1)
 
--- so what a first operation of an object answered is the width that stands when its passage becomes committed
+-- so what a first operation of an object found is the width that stands when its passage becomes committed
 pub read-is-what-stands :
     {t₀ : Tables} → Started t₀ → (before : List Step) (s : Step) (between : List Step) (commit : Step) (p k : ℕ)
     → operates (runOf t₀ before) p k s ≡ true → isHolding (runOf t₀ before) p k ≡ false
     → isRetired p (historyOf (runOf t₀ before) (s ∷ between)) ≡ false
     → passageAt (runOf t₀ (before ++ s ∷ between)) p .status ≢ Status.Committed
     → passageAt (stepOf (runOf t₀ (before ++ s ∷ between)) commit .tables) p .status ≡ Status.Committed
-    → stepOf (runOf t₀ before) s .answer ≡ Answer.Accepted (restOf t₀ (before ++ s ∷ between) k)
+    → Finds (runOf t₀ before) s (restOf t₀ (before ++ s ∷ between) k)
 read-is-what-stands {t₀} fresh before s between commit p k e fresh-hold r not-yet committed =
     let z = held-run fresh before .sound in
     let free : isUnheld (objectAt (runOf t₀ before) k) ≡ true =
@@ -177,4 +177,4 @@ read-is-what-stands {t₀} fresh before s between commit p k e fresh-hold r not-
     (λ y. absurd (false≢true (sym fresh-hold ∙ y)))
     (operated-was-free-or-own (runOf t₀ before) p k s z e) in
     let rests = commit-rests-on-what-stands fresh before s between commit p k e r not-yet committed in
-    operated-reads (runOf t₀ before) p k s z e ∙ ap Answer.Accepted (value-is-rest fresh before k free ∙ sym (rests .stands))
+    operated-finds (runOf t₀ before) p k s z e ∙ ap Body.Reply (value-is-rest fresh before k free ∙ sym (rests .stands))

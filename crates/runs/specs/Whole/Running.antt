@@ -59,9 +59,9 @@ running-moved {w = w} (Move.Closes home one closed e x i z fits) u y =
     running-told (w .passage .round .kind) _ (w .passage .status) (ap (λ (q : Passage). isRunning (q .status)) (sym e) ∙ y)
 running-moved (Move.Aborts runs e x i z) u y = runs
 running-moved (Move.Receives call body at e x early i z) u y = ap (λ (q : Passage). isRunning (q .status)) (sym e) ∙ y
-running-moved (Move.Replies n asked body e was live below x i silent reply uncalled) u y = ap (λ (q : Passage). isRunning (q .status)) (sym e) ∙ y
+running-moved (Move.Answers n asked body e was live below x i silent back uncalled) u y = ap (λ (q : Passage). isRunning (q .status)) (sym e) ∙ y
 running-moved (Move.Hears n told body e was x i z) u y = ap (λ (q : Passage). isRunning (q .status)) (sym e) ∙ y
-running-moved (Move.Collects n r q body number at e x i stamp z) u y = ap (λ (u : Passage). isRunning (u .status)) (sym e) ∙ y
+running-moved (Move.Keeps n r q body number at e x i stamp z) u y = ap (λ (u : Passage). isRunning (u .status)) (sym e) ∙ y
 
 -- ---- its release times stay or rise
 
@@ -114,7 +114,7 @@ release-moved {w = w} {a = a} {v = v} l h runs (Move.Closes home one closed e x 
 release-moved {w = w} {a = a} l h runs (Move.Aborts run e x i z) was now = rw (x, where-is (w .visit a) _ was) (omega arith)
 release-moved {w = w} {a = a} l h runs (Move.Receives call body at e x early i z) was now =
     rw x (when-true (λ (u : Visit). w .visit a .release ≤ u .release) (w .visit a .there) (w .visit a) _ was (omega arith))
-release-moved {w = w} {a = a} {c = c} l h runs (Move.Replies n asked body e there live below x i silent reply uncalled) was now =
+release-moved {w = w} {a = a} {c = c} l h runs (Move.Answers n asked body e there live below x i silent back uncalled) was now =
     rw x (asked-release asked n c (w .visit a))
 release-moved {w = w} {a = a} {k = k} l h runs (Move.Hears n told body e there x i z) was now =
     rw x
@@ -123,7 +123,7 @@ release-moved {w = w} {a = a} {k = k} l h runs (Move.Hears n told body e there x
     running-not-over (w .passage .status) runs
     (h .mail k .two n (Told.Terminate m) (body ∙ ap (Body.PhaseTwo n) is) .1 .0 .over))
     (ap (λ (u : Visit). u .there) (sym x) ∙ now))
-release-moved l h runs (Move.Collects n r q body number at e x i stamp z) was now = rw x (omega arith)
+release-moved l h runs (Move.Keeps n r q body number at e x i stamp z) was now = rw x (omega arith)
 
 release-turned :
     {w : View} {a : ℕ} {p : Passage} {v : Visit} {trip : Trip} → Turn w a p v trip → w .visit a .there ≡ true → v .there ≡ true

@@ -1,68 +1,107 @@
 -- Nothing is done that was not sent: every call in flight is the one that an earlier accepted invoke left in its message slot, and has waited there since;
 -- so every operation does what an earlier invoke said.
--- The idea: a run begins with no message, and a call comes into a slot by an invoke alone. Assumes nothing.
+-- And nothing is told that was not found: every reply in flight carries what the delivery of its call found.
+-- The idea: a run begins with no message; a call comes into a slot by an invoke alone, and a reply by the delivery of a call. Assumes nothing.
 use Prim.Native.Nat.{ℕ, _%_}
 use mathlib.Core.Path.{_≡_, refl, sym, ap, _∙_, subst}
-use mathlib.Core.Logic.{⊎-elim}
-use mathlib.Core.Bool.{true, false≢true}
+use mathlib.Core.Logic.{⊎-elim, _⊎_}
+use mathlib.Core.Bool.{Bool, true, false≢true}
 use mathlib.Core.List.{List, [], _∷_, _++_, append-nil, append-assoc}
 use lib.Dec.{eqb}
 use borrow.Author.Tests.{eqb-true}
 use Rattle.rules.specs.LoopsLaws.{and-left, and-right}
-use Rattle.rules.specs.Tables.{messageAt, slotOf}
+use Rattle.rules.specs.Tables.{objectAt, messageAt, slotOf}
 use Rattle.rules.specs.Answers.{isAccepted}
 use Rattle.rules.specs.Machine.{stepOf}
 use Rattle.rules.specs.Record.{flatOf, isStep}
 use Rattle.rules.specs.StartLaws.{started-is-empty}
 use Rattle.rules.specs.Runs.{Started, runOf}
-use Rattle.rules.specs.Views.{isCalled}
-use Rattle.runs.specs.Types.{Body, Message, Tables, Step}
+use Rattle.rules.specs.Views.{isCalled, isReply}
+use Rattle.runs.specs.Types.{Body, Message, Tables, Step, Answer}
 use Rattle.runs.specs.Walk.Steps.{run-on}
 use Rattle.runs.specs.Walk.Sound.{sound-run}
-use Rattle.runs.specs.Operations.Definitions.{mailNamed, callsFor, operates, isWrite, toWrite, SaysCall, InvokedInto}
+use Rattle.runs.specs.Operations.Definitions.{mailNamed, callsFor, operates, isWrite, toWrite, SaysCall, InvokedInto, RepliedInto}
 use Rattle.runs.specs.Operations.Invoked.{invoked-says}
 use Rattle.runs.specs.Operations.Mail.{call-was-invoked}
-use Rattle.runs.specs.Whole.Definitions.{SentBefore, WasInvoked}
+use Rattle.runs.specs.Operations.Replied.{replied-finds, reply-was-left, reply-answers}
+use Rattle.runs.specs.Whole.Definitions.{CameBefore, SentBefore, RepliedBefore, WasInvoked}
 
-module _ {t₀ : Tables} (fresh : Started t₀) (m : ℕ) where
+-- ---- what is in flight came by a step
+
+-- of messages that no run begins with, and that come into a slot by a step of this kind alone
+module _ {t₀ : Tables} (m : ℕ) (is : Body → Bool) (Into : Tables → Step → Type 0)
+    (none : is (messageAt t₀ m .body) ≡ true → ⊥)
+    (comes :
+    (ss : List Step) (s : Step) → is (messageAt (stepOf (runOf t₀ ss) s .tables) m .body) ≡ true
+    → (messageAt (stepOf (runOf t₀ ss) s .tables) m ≡ messageAt (runOf t₀ ss) m) ⊎ Into (runOf t₀ ss) s) where
   -- one more step
-  sent-on :
+  came-on :
       (ss : List Step) (s : Step)
-      → (isCalled (messageAt (runOf t₀ ss) m .body) ≡ true → SentBefore t₀ ss m)
-      → isCalled (messageAt (runOf t₀ (ss ++ s ∷ [])) m .body) ≡ true → SentBefore t₀ (ss ++ s ∷ []) m
+      → (is (messageAt (runOf t₀ ss) m .body) ≡ true → CameBefore Into t₀ ss m)
+      → is (messageAt (runOf t₀ (ss ++ s ∷ [])) m .body) ≡ true → CameBefore Into t₀ (ss ++ s ∷ []) m
   unfolding runOf
-  sent-on ss s before c =
+  came-on ss s before c =
       let on : runOf t₀ (ss ++ s ∷ []) ≡ stepOf (runOf t₀ ss) s .tables = run-on t₀ ss (s ∷ []) in
-      let called : isCalled (messageAt (stepOf (runOf t₀ ss) s .tables) m .body) ≡ true = rw on at c in
+      let now : is (messageAt (stepOf (runOf t₀ ss) s .tables) m .body) ≡ true = rw on at c in
       ⊎-elim
       (λ same.
-      let g = before (ap (λ (x : Message). isCalled (x .body)) (sym same) ∙ called) in
+      let g = before (ap (λ (x : Message). is (x .body)) (sym same) ∙ now) in
       record {
         first = g .first;
         step = g .step;
         rest = g .rest ++ s ∷ [];
         all = ap (λ (x : List Step). x ++ s ∷ []) (g .all) ∙ append-assoc (g .first) (g .step ∷ g .rest) (s ∷ []);
-        invoked = g .invoked;
+        by = g .by;
         waits = ap (λ (u : Tables). messageAt u m) on ∙ same ∙ g .waits;
       })
-      (λ g. record { first = ss; step = s; rest = []; all = refl; invoked = g; waits = ap (λ (u : Tables). messageAt u m) on })
-      (call-was-invoked (runOf t₀ ss) m (sound-run fresh ss) s called)
+      (λ g. record { first = ss; step = s; rest = []; all = refl; by = g; waits = ap (λ (u : Tables). messageAt u m) on })
+      (comes ss s now)
 
-  sent-from :
-      (before ss : List Step) → (isCalled (messageAt (runOf t₀ before) m .body) ≡ true → SentBefore t₀ before m)
-      → isCalled (messageAt (runOf t₀ (before ++ ss)) m .body) ≡ true → SentBefore t₀ (before ++ ss) m
-  sent-from before [] has c = rw (append-nil before) (has (rw (append-nil before) at c))
-  sent-from before (s ∷ ss) has c =
+  came-from :
+      (before ss : List Step) → (is (messageAt (runOf t₀ before) m .body) ≡ true → CameBefore Into t₀ before m)
+      → is (messageAt (runOf t₀ (before ++ ss)) m .body) ≡ true → CameBefore Into t₀ (before ++ ss) m
+  came-from before [] has c = rw (append-nil before) (has (rw (append-nil before) at c))
+  came-from before (s ∷ ss) has c =
       subst
-      (λ (x : List Step). isCalled (messageAt (runOf t₀ x) m .body) ≡ true → SentBefore t₀ x m)
+      (λ (x : List Step). is (messageAt (runOf t₀ x) m .body) ≡ true → CameBefore Into t₀ x m)
       (append-assoc before (s ∷ []) ss)
-      (sent-from (before ++ s ∷ []) ss (sent-on before s has))
+      (came-from (before ++ s ∷ []) ss (came-on before s has))
       c
 
-  -- in every run: a call in flight was sent by an accepted invoke, and has waited since
-  pub call-was-sent : (ss : List Step) → isCalled (messageAt (runOf t₀ ss) m .body) ≡ true → SentBefore t₀ ss m
+  came-before : (ss : List Step) → is (messageAt (runOf t₀ ss) m .body) ≡ true → CameBefore Into t₀ ss m
   unfolding runOf
-  call-was-sent ss = sent-from [] ss (λ c. absurd (false≢true (ap isCalled (sym (started-is-empty fresh .empty m)) ∙ c)))
+  came-before ss = came-from [] ss (λ c. absurd (none c))
+
+-- in every run: a call in flight was sent by an accepted invoke, and has waited since
+pub call-was-sent :
+    {t₀ : Tables} → Started t₀ → (m : ℕ) (ss : List Step) → isCalled (messageAt (runOf t₀ ss) m .body) ≡ true → SentBefore t₀ ss m
+call-was-sent {t₀} fresh m =
+    came-before m isCalled (λ t step. InvokedInto t step m)
+    (λ c. false≢true (ap isCalled (sym (started-is-empty fresh .empty m)) ∙ c))
+    (λ ss s. call-was-invoked (runOf t₀ ss) m (sound-run fresh ss) s)
+
+-- in every run: a reply in flight was left by an accepted delivery of a call, which found what it carries, and has waited since
+pub reply-was-found :
+    {t₀ : Tables} → Started t₀ → (m v : ℕ) (ss : List Step) → messageAt (runOf t₀ ss) m .body ≡ Body.Reply v → RepliedBefore t₀ ss m v
+reply-was-found {t₀} fresh m v ss c =
+    let came : CameBefore (λ t step. RepliedInto t step m) t₀ ss m =
+    came-before m isReply (λ t step. RepliedInto t step m)
+    (λ y. false≢true (ap isReply (sym (started-is-empty fresh .empty m)) ∙ y))
+    (λ ss s. reply-was-left (runOf t₀ ss) m (sound-run fresh ss) s)
+    ss
+    (rw c) in
+    let left = replied-finds (runOf t₀ (came .first)) (came .step) m (sound-run fresh (came .first)) (came .by) in
+    let same : Body.Reply v ≡ Body.Reply (objectAt (runOf t₀ (came .first)) (came .by .call .object) .value) =
+    sym c ∙ ap (λ (x : Message). x .body) (came .waits) ∙ left in
+    record { came = came; found = cc }
+
+-- so in every run an accepted delivery of a reply answers what its call found
+pub collected-is-found :
+    {t₀ : Tables} → Started t₀ → (ss : List Step) (m v : ℕ) → messageAt (runOf t₀ ss) m .body ≡ Body.Reply v
+    → isAccepted (stepOf (runOf t₀ ss) (Step.Deliver m) .answer) ≡ true
+    → (stepOf (runOf t₀ ss) (Step.Deliver m) .answer ≡ Answer.Accepted v) × RepliedBefore t₀ ss m v
+collected-is-found {t₀} fresh ss m v reply a =
+    (reply-answers (runOf t₀ ss) m v reply a, reply-was-found fresh m v ss reply)
 
 -- ---- an operation
 
@@ -73,6 +112,7 @@ calls-called k (Body.Call c) e = refl
 calls-called k (Body.PhaseOne n asked) e = e
 calls-called k (Body.PhaseTwo n told) e = e
 calls-called k (Body.Answer n received q) e = e
+calls-called k (Body.Reply value) e = e
 
 -- in every run: every operation does what an earlier accepted invoke said, whose call has waited since
 pub operation-was-invoked :
@@ -107,7 +147,7 @@ operation-was-invoked {t₀} fresh ss p k s e =
     sent = call-was-sent fresh m ss (calls-called k (mailNamed t s .body) for)
 
     went : InvokedInto (runOf t₀ (sent .first)) (sent .step) m
-    went = sent .invoked
+    went = sent .by
 
     said :
         SaysCall

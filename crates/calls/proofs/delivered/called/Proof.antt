@@ -9,7 +9,7 @@ count-received-requires c κs =
     (called-received (c .before .before .before .before .before .args .call) (c .before .before .before .before .before .args .seen .visit) 1000 (c .before .before .before .before .before .pre .received))
 
 returns : tie.Need-returns
-returns c = rw (c .operated .ensures, c .before .taken .ensures, c .before .before .before .before .before .no-message .ensures, c .before .before .before .before .before .before .count-received .ensures, c .before .before .before .before .before .before .before .called-visit .ensures, c .before .before .before .before .before .before .before .before .clock-to .ensures, c .before .before .before .before .before .before .before .before .before .mail-slot .ensures)
+returns c = rw (c .operated .ensures, c .before .taken .ensures, c .before .before .before .before .before .reply-to .ensures, c .before .before .before .before .before .before .count-received .ensures, c .before .before .before .before .before .before .before .called-visit .ensures, c .before .before .before .before .before .before .before .before .clock-to .ensures, c .before .before .before .before .before .before .before .before .before .mail-slot .ensures)
 
 pub called-spec : {M : Type 1} → statement M
 called-spec =

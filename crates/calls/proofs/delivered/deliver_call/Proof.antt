@@ -16,7 +16,7 @@ called-requires c κs =
 returns : tie.Need-returns
 unfolding deliverCallOf
 returns c =
-    let room = c .before .before .before in
+    let room = c .before .before in
     let unheld = room .before .before .before in
     let early = unheld .before .before .before .before in
     let clock = early .before .before .before .before in
@@ -45,9 +45,8 @@ returns c =
     ) in
     rw (
       c .settle .ensures,
-      c .before .before .called .ensures,
+      c .before .called .ensures,
       tried,
-      fields .before .before .called-object .ensures,
       fields .before .before .before .before .mail-clock .ensures,
     ) (settled-first _ _ _ _ _)
 
@@ -61,5 +60,5 @@ deliver-call-spec =
     (λ c κs. search needs) (λ c κs. search needs) (λ c κs. search needs) (λ c κs. search needs)
     (λ c κs. search needs) (λ c κs. search needs)
     called-requires
-    (λ c. search needs) (λ c κs. search needs)
+    (λ c κs. search needs)
     returns)

@@ -23,15 +23,20 @@ returns-5 : tie.Need-returns-5
 unfolding deliverBodyOf
 returns-5 c = rw (c .deliver-answer .ensures, c .before .before .body4 .given .1)
 
+returns-6 : tie.Need-returns-6
+unfolding deliverBodyOf
+returns-6 c = rw (c .deliver-reply .ensures, c .before .before .body5 .given .1)
+
 pub deliver-spec : {M : Type 1} → statement M
 deliver-spec =
     tie.close
     (tie.spec
     (λ c. search needs) (λ c κs. search needs) (λ c. search needs) (λ c κs. search needs)
     (λ c. search needs) (λ c κs. search needs) (λ c. search needs) (λ c κs. search needs)
-    (λ c. search needs) (λ c κs. search needs)
+    (λ c. search needs) (λ c κs. search needs) (λ c. search needs) (λ c κs. search needs)
     returns
     returns-2
     returns-3
     returns-4
-    returns-5)
+    returns-5
+    returns-6)

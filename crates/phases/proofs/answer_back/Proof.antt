@@ -1,6 +1,6 @@
 use borrow.Author.Needs.{needs}
-use Rattle.phases.proofs.reply_of.Statement.{statement}
-use Rattle.phases.proofs.reply_of.Tie as tie
+use Rattle.phases.proofs.answer_back.Statement.{statement}
+use Rattle.phases.proofs.answer_back.Tie as tie
 
 returns : tie.Need-returns
 returns c = rw (c .no-message .ensures, ← c .before .before .at-home .ensures, c .before .if1 .taken)
@@ -8,7 +8,7 @@ returns c = rw (c .no-message .ensures, ← c .before .before .at-home .ensures,
 returns-2 : tie.Need-returns-2
 returns-2 c = rw (c .answer-message .ensures, ← c .before .before .at-home .ensures, c .before .if1 .left)
 
-pub reply-of-spec : {M : Type 1} → statement M
-reply-of-spec =
+pub answer-back-spec : {M : Type 1} → statement M
+answer-back-spec =
     tie.close
     (tie.spec (λ c κs. search needs) (λ c κs. search needs) (λ c κs. search needs) returns returns-2)
