@@ -1,7 +1,12 @@
 // The clearance check: one passage that reads every width on a ship's way, commits, and says whether her beam fits.
 // It hands the tables to the machine unread: all that it knows it has from the answers.
+mod answered;
 mod question;
 
+use answered::handle_in;
+use answered::mail_in;
+use answered::one_if_accepted;
+use answered::width_in;
 use machine::step;
 use question::fits_or_narrow;
 use question::is_bad_beam;
@@ -18,9 +23,7 @@ use rules::tables::Tables;
 ghost use Prim.Native.Nat.{_≤_, _<_};
 ghost use mathlib.Core.Path.{_≡_};
 ghost use lib.ListN.{length};
-ghost use Rattle.rules.specs.Loops.{oneIf};
-ghost use Rattle.rules.specs.Answers.{isAccepted, answerValue};
-ghost use Rattle.clearing.specs.Clearing.{made, thenMade, handleIn, mailIn, widthIn, thereAndBack, readOne, readsUpTo, widthsUpTo, readCount, askOne, asksUpTo, tellOne, tellsUpTo, dropped, givenUp, refusedBy, noReading, committed, endedOf, wentOf, checkedOf, clearedOf};
+ghost use Rattle.clearing.specs.Clearing.{made, thenMade, thereAndBack, readOne, readsUpTo, widthsUpTo, readCount, askOne, asksUpTo, tellOne, tellsUpTo, dropped, givenUp, refusedBy, noReading, committed, endedOf, wentOf, checkedOf, clearedOf};
 
 // What a check refuses by itself, before any step, in the order in which it is tried.
 pub enum OwnRefusal {
@@ -87,46 +90,6 @@ fn then_make(w: Way, s: Step) -> Way
     match answer {
         Answer::Accepted(_) => make(tables, s),
         Answer::Refused(_) => w,
-    }
-}
-
-// What the last step answered; 0 where it was refused.
-fn value_in(w: Way) -> u64
-    ensures { λ r. ⌜ r ≡ answerValue (w .answer) ⌝ }
-{
-    let answer = w.answer;
-    match answer {
-        Answer::Accepted(value) => value,
-        Answer::Refused(_) => 0,
-    }
-}
-
-fn handle_in(w: Way) -> u16
-    ensures { λ r. ⌜ r ≡ handleIn w ⌝ }
-{
-    (value_in(w) % 65536) as u16
-}
-
-fn mail_in(w: Way) -> u8
-    ensures { λ r. ⌜ r ≡ mailIn w ⌝ }
-{
-    (value_in(w) % 256) as u8
-}
-
-fn width_in(w: Way) -> u32
-    ensures { λ r. ⌜ r ≡ widthIn w ⌝ }
-{
-    (value_in(w) % 4294967296) as u32
-}
-
-// 1 for a step that was accepted, 0 for one that was refused.
-fn one_if_accepted(w: Way) -> usize
-    ensures { λ r. ⌜ (r ≡ oneIf (isAccepted (w .answer))) × (r ≤ 1) ⌝ }
-{
-    let answer = w.answer;
-    match answer {
-        Answer::Accepted(_) => 1,
-        Answer::Refused(_) => 0,
     }
 }
 
