@@ -18,10 +18,8 @@ DASH = re.compile(r"[a-z][A-Za-z0-9]*(?:-[A-Za-z0-9]+)+'*$")
 HEAD = re.compile(r"\s*((?:abbrev |unfoldable |pub |data |record )*)([^\s:(){}λ,.;]+) :(?: |$)")
 # Words of antt that no definition may have, and what stands for ours.
 RESERVED = {"first_of": "first_refusal"}
-# Fields of src/ that a lemma's name would hide.
-FIELDS = {"in_range"}
 # What is written otherwise than by the rule.
-GIVEN = {"Then-known": "ThenKnown", "◌refusedBy◌": "◌refused_by◌", "_refusedBy_": "◌refused_by◌", "_gives_": "◌gives◌"}
+GIVEN = {"Then-known": "ThenKnown", "in-range": "ranged", "◌refusedBy◌": "◌refused_by◌", "_refusedBy_": "◌refused_by◌", "_gives_": "◌gives◌"}
 
 
 def snake(n):
@@ -70,21 +68,21 @@ def own_names():
             elif n in RESERVED:
                 names[n] = RESERVED[n]
     # A lemma that would have a definition's name, or a field's, gets _lem.
-    taken = {to for n, to in names.items() if "-" not in n} | (all_names - set(names)) | FIELDS
+    taken = {to for n, to in names.items() if "-" not in n} | (all_names - set(names))
     for n, to in names.items():
         if "-" in n and n not in GIVEN and to in taken:
             names[n] = to + "_lem"
     return names
 
 
-def turned(text, names):
+def turned(text, names, of_function):
     def word(m):
         n = m[0]
         if n not in names:
             return n
         before = text[: m.start()]
-        if before.endswith(".") and not CAMEL.match(n):
-            # behind a module the name is ours; behind a value it is a label that Rattle made
+        if of_function and before.endswith(".") and not CAMEL.match(n):
+            # behind a module the name is ours; behind a value it is a label that Rattle made, in the proof of a function
             owner = re.search(r"([A-Za-z0-9_'-]+)\.$", before)
             if not owner or not owner[1][0].isupper():
                 return n
@@ -118,7 +116,7 @@ def main(argv):
         return 0
     for p in files("crates", (".antt", ".rt")):
         t = read(p)
-        n = turned(t, names)
+        n = turned(t, names, of_code(p))
         if n != t:
             write(p, n)
     # What port.py turned already stands in the pages as it was: a name whose snake case is a definition of ours.

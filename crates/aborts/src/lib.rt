@@ -1,5 +1,7 @@
 // A passage is given up: 10 abort.
 // It equals its definition in rules' specs/Passages.antt: the checks in the order of the refusal table, then the records that are left.
+#![tactic(auto)]
+
 ghost use Rattle.std.specs.Prelude.{◌≡◌};
 ghost use Rattle.rules.specs.Sane.{Sane};
 ghost use Rattle.rules.specs.Passages.{aborted, abort_of};

@@ -1,4 +1,6 @@
 // The number and the value of an answer, as documents 01 and 02 give them.
+#![tactic(auto)]
+
 ghost use Rattle.std.specs.Prelude.{◌≡◌};
 ghost use Rattle.rules.specs.Answers.{refusal_number, answer_number, answer_value};
 

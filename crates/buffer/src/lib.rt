@@ -1,5 +1,7 @@
 // Texts, put into the caller's buffer: bytes as they stand, a number's digits, a word's letters, the lines of the listing.
 // Each function leaves the buffer with its text at `at`, and hands back the place after the text.
+#![tactic(auto)]
+
 ghost use Rattle.std.specs.Prelude.{◌+◌, ◌≤◌, ◌<◌, [], ◌∷◌, length};
 ghost use Rattle.rules.specs.Listing.{spelt, digits_of, decimal_of, sheet_line};
 ghost use Rattle.buffer.specs.Text.{Puts, numbers_line};

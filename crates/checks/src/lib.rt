@@ -1,4 +1,6 @@
 // How a step is refused: its checks as data, in the order of the refusal table; the first that holds refuses.
+#![tactic(auto)]
+
 ghost use Rattle.std.specs.Prelude.{◌≡◌};
 ghost use Rattle.rules.specs.Answers.{refuse};
 ghost use Rattle.checks.specs.Order.{or_else, settled_by};

@@ -1,5 +1,7 @@
 // Two width lists and a sheet, by their files' names, and the words of a request in one argument; what the check says on standard output.
 // Nothing else is decided here.
+#![tactic(auto)]
+
 ghost use Rattle.std.specs.Prelude.{◌≤◌, length};
 
 use libc::STDOUT_FILENO;

@@ -203,7 +203,7 @@ module _ (course : Course) where
         running =
             record {
               sized = r.sized;
-              in_range_lem = r.in-range;
+              ranged = r.ranged;
               names = r.names;
               runs = r.runs;
               lives = r.lives;

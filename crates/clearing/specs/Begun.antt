@@ -50,7 +50,7 @@ begins t home slot q r v objects z e =
             running =
                 record {
                   sized = sized_after_step t (Step.Begin home slot q r) z.sized;
-                  in_range_lem = in_range_after_accepted t (Step.Begin home slot q r) (ap is_accepted e);
+                  ranged = in_range_after_accepted t (Step.Begin home slot q r) (ap is_accepted e);
                   names = rw (b.names, b.passage.here) (record { handle = omega arith; used = refl; generation = sym b.generation });
                   runs = rw (b.names, b.passage.here);
                   lives = rw (b.names, b.passage.here);

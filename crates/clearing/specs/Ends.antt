@@ -106,7 +106,7 @@ module _ (t : Tables) (beam margin : ℕ) (objects : List ℕ) (home slot quiesc
       ∙ ap (λ (a : Answer). ended_by a beam margin objects home (widths_read t objects home slot quiesce release) (read_count h home objects begun (length objects)) h last) e)
     where
       tried : cleared_of t beam margin objects home slot quiesce release ≡ checked_of t beam margin objects home slot quiesce release
-      tried = rw (fair.beam-fair, fair.margin-fair, fair.list-fair, fair.objects-fair, fair.once)
+      tried = rw (fair.beam_fair, fair.margin_fair, fair.list_fair, fair.objects_fair, fair.once)
 
   pub ends : Ends (cleared_of t beam margin objects home slot quiesce release)
   unfolding cleared_of

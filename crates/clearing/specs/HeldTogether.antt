@@ -124,7 +124,7 @@ module _ (course : Course) (slot : ℕ) (w : Way) (is : slot_of course.handle �
       let r : Runs course w.tables g.bound = g.running in
       let clock : (site_at w.tables course.home).clock ≤ g.bound = r.clock in
       let room : g.bound < clock_most = g.room in
-      abort_accepted w.tables h r.in-range r.names r.runs (rw r.lives r.up) (rw r.lives (omega arith))
+      abort_accepted w.tables h r.ranged r.names r.runs (rw r.lives r.up) (rw r.lives (omega arith))
 
   abort_leaves : Aborted w.tables after_abort h (slot_of h) (passage_at w.tables (slot_of h)) 0
   abort_leaves = abort_effects w.tables h 0 g.running.sized abort_goes
@@ -245,7 +245,7 @@ module _ (t : Tables) (beam margin : ℕ) (objects : List ℕ) (home slot quiesc
           (prepare_goes course start.home_below (going v a)).goes _ (accepted_answer _ p) in
           let made-it : prepare_made h home objects w ≡ made (read_all h home objects w).tables (Step.Prepare h) =
           then_made_lem (read_all h home objects w) (Step.Prepare h) r in
-          let eight : length objects ≤ 8 = ltb-false _ _ (or_right (eqb (length objects) 0) _ fair.list-fair) in
+          let eight : length objects ≤ 8 = ltb-false _ _ (or_right (eqb (length objects) 0) _ fair.list_fair) in
           let fitting : is_fitting beam margin (widths_up_to h home objects w (length objects)) (length objects) ≡ true = said_fits _ (rw e at f) in
           rw e
           (record {

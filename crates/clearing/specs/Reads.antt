@@ -92,7 +92,7 @@ module _ (course : Course) where
         goes = λ v e.
             let r : Runs course t time_most = b.running in
             let i : Invoked t (step_of t (Step.Invoke h home 0 k 0)).tables h (slot_of h) home 0 k 0 v = invoke_effects t h home 0 k 0 v r.sized e in
-            let q : (visit_at t home (slot_of h)).quiesce ≤ time_most = quiesce_most t home (slot_of h) r.in-range below (omega arith) in
+            let q : (visit_at t home (slot_of h)).quiesce ≤ time_most = quiesce_most t home (slot_of h) r.ranged below (omega arith) in
             let y : next_clock (site_at t home) < (visit_at t home (slot_of h)).quiesce = i.early in
             let l : next_clock (site_at t home) ≤ time_most = omega arith in (
               i.message.below,
@@ -130,12 +130,12 @@ module _ (course : Course) where
             let c : Call = says.call in
             let d : CallDelivered t t' m (message_at t m) (object_site k) (slot_of h) c v =
             rw (says.destination, says.handle) at (call_delivered_effects t m v c r.sized says.body e) in
-            let fits : CallFits c = call_range_says c (rw says.body at (message_fits t m r.in-range f.below).body) in
-            let o : c.object < 32 = d.object-below in
+            let fits : CallFits c = call_range_says c (rw says.body at (message_fits t m r.ranged f.below).body) in
+            let o : c.object < 32 = d.object_below in
             let z : k ≡ c.object = sym says.object in
             let q : (called_visit c (visit_at t (object_site k) (slot_of h))).quiesce ≤ time_most =
             cond_keeps (λ (u : Visit). u.quiesce ≤ time_most) (visit_at t (object_site k) (slot_of h)).there _ _
-            (quiesce_most t (object_site k) (slot_of h) r.in-range (omega arith) (omega arith))
+            (quiesce_most t (object_site k) (slot_of h) r.ranged (omega arith) (omega arith))
             fits.quiesce in
             let y : delivery_clock (site_at t (object_site k)) (message_at t m) < (called_visit c (visit_at t (object_site k) (slot_of h))).quiesce = d.early in
             let i : delivery_clock (site_at t (object_site k)) (message_at t m) < time_most = omega arith in
@@ -162,7 +162,7 @@ module _ (course : Course) where
                   record {
                     holds = rw only.here (holder_of_called (slot_of h) (object_at t k) c unheld);
                     value = rw only.here (value_of_read (slot_of h) (object_at t k) c says.reads ∙ ap (λ (j : ℕ). (object_at t j).value) z);
-                    fits = width_most_lem t c.object r.in-range o;
+                    fits = width_most_lem t c.object r.ranged o;
                     near = rw (clock_here d.clock) l;
                   };
             };

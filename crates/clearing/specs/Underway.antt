@@ -107,7 +107,7 @@ module _ (course : Course) where
   -- the passage runs, and its home is up and has a clock of at most c
   pub record Runs (t : Tables) (c : ℕ) : Type 0 where
     pub sized : Sized t
-    pub in_range_lem : in_range t ≡ true
+    pub ranged : in_range t ≡ true
     pub names : InUse h (passage_at t (slot_of h))
     pub runs : is_running (passage_at t (slot_of h)).status ≡ true
     pub lives : (passage_at t (slot_of h)).home ≡ home
@@ -261,7 +261,7 @@ module _ (course : Course) where
   runs_on t s c b k d p r a moves l l' e runs same_home same_use asks =
       record {
         sized = sized_after_step t s r.sized;
-        in_range_lem = in_range_after_accepted t s a;
+        ranged = in_range_after_accepted t s a;
         names =
             rw e
             (record { handle = r.names.handle; used = running_used p.status runs; generation = same_use ∙ r.names.generation });

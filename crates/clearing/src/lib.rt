@@ -1,5 +1,7 @@
 // The clearance check: one passage that reads every width on a ship's way, commits, and says whether her beam fits.
 // It hands the tables to the machine unread: all that it knows it has from the answers.
+#![tactic(auto)]
+
 mod answered;
 mod question;
 

@@ -1,5 +1,7 @@
 // A round goes from phase 1 to phase 2: 8 close.
 // It equals its definition in rules' specs/Rounds.antt: the checks in the order of the refusal table, then the records that are left.
+#![tactic(auto)]
+
 ghost use Rattle.std.specs.Prelude.{◌≡◌};
 ghost use Rattle.rules.specs.Sane.{Sane};
 ghost use Rattle.rules.specs.Rounds.{round_told, closed_passage, objects_where_there, closed, close_of};

@@ -1,5 +1,7 @@
 // The two tables of the grammar, and where they are read.
 // Each function equals its definition in words' specs/Grammar.antt.
+#![tactic(auto)]
+
 ghost use Rattle.std.specs.Prelude.{◌+◌, ◌≤◌, ◌<◌, ◌≡◌};
 ghost use Rattle.rules.specs.Loops.{first_next};
 ghost use Rattle.words.specs.Grammar.{edge_of, edge_at, leads_from, slot_at, may_end};

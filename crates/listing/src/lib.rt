@@ -1,4 +1,6 @@
 // A whole sheet run into a buffer of lines: each record from the start, one line each, or the one line of a refused sheet.
+#![tactic(auto)]
+
 ghost use Rattle.std.specs.Prelude.{◌*◌, ◌≤◌, length};
 ghost use Rattle.buffer.specs.Text.{Puts};
 ghost use Rattle.running.specs.Answered.{HoldsAnswers};

@@ -1,5 +1,7 @@
 // A step on the tables: number 20, then look, decide, store, and for a sweep or a crash the sixteen slots.
 // `step` and `step_record` are for users. A runner that holds the tables itself uses `places`, `decisions` and `work`.
+#![tactic(auto)]
+
 mod whole;
 
 ghost use Rattle.std.specs.Prelude.{◌≡◌};

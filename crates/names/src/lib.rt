@@ -1,5 +1,7 @@
 // The line of an object, looked up in a station's own list and then in the company's, as a part of the caller's own bytes.
 // `line_for` equals its definition in specs/Names.antt.
+#![tactic(auto)]
+
 ghost use Rattle.std.specs.Prelude.{◌+◌, ◌-◌, ◌*◌, ◌≤◌, ◌<◌, min, ◌≡◌, ◌∷◌, length, take, drop};
 ghost use Rattle.names.specs.Names.{is_digit, matches, lines_of, first_match, line_for};
 

@@ -1,4 +1,6 @@
 // The machine on tables that no run reaches. Each line: the refusal number, the value, and the clock of site 0 afterwards.
+#![tactic(auto)]
+
 use answers::{answer_number, answer_value};
 use libc::STDOUT_FILENO;
 use machine::{step, step_record};

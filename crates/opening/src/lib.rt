@@ -1,5 +1,7 @@
 // The steps that open a round: 4 refresh, 5 terminate, 6 prepare.
 // Each equals its definition in rules' specs/Rounds.antt: the checks in the order of the refusal table, then the records that are left.
+#![tactic(auto)]
+
 ghost use Rattle.std.specs.Prelude.{◌≤◌, ◌≡◌};
 ghost use Rattle.rules.specs.Sane.{Sane};
 ghost use Rattle.rules.specs.Rounds.{opened_visit, opened_passage, opened, open_of, refresh_of, terminate_of, prepare_of};

@@ -1,5 +1,7 @@
 // The steps of an outage: 14 crash, 15 recover.
 // Each equals its definition in rules' specs/Stations.antt: the checks in the order of the refusal table, then the records that are left.
+#![tactic(auto)]
+
 ghost use Rattle.std.specs.Prelude.{◌≡◌};
 ghost use Rattle.rules.specs.Sane.{Sane};
 ghost use Rattle.rules.specs.Stations.{crash_of, loses_home, crashed_visit, crashed_passage, crashed_slot, recover_of};

@@ -1,5 +1,7 @@
 // The small changes of single records that the sixteen steps are made of.
 // Each function equals the definition of the same name in rules' specs/Parts.antt, unless its file says another.
+#![tactic(auto)]
+
 pub mod message;
 pub mod object;
 pub mod passage;

@@ -1,5 +1,7 @@
 // A passage slot is taken and freed: 2 begin, 16 retire.
 // Each equals its definition in rules' specs/Passages.antt: the checks in the order of the refusal table, then the records that are left.
+#![tactic(auto)]
+
 ghost use Rattle.std.specs.Prelude.{◌≡◌};
 ghost use Rattle.rules.specs.Sane.{Sane};
 ghost use Rattle.rules.specs.Tables.{handle_of};

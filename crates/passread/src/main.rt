@@ -1,5 +1,7 @@
 // A sheet on standard input, its records in words with their answers on standard output; with `--plain`, the words alone.
 // Nothing else is decided here.
+#![tactic(auto)]
+
 ghost use Rattle.std.specs.Prelude.{◌≤◌, length};
 
 use libc::{STDIN_FILENO, STDOUT_FILENO};

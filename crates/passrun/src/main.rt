@@ -1,4 +1,6 @@
 // A sheet on standard input, its listing on standard output. Nothing is decided here.
+#![tactic(auto)]
+
 use libc::{STDIN_FILENO, STDOUT_FILENO};
 use listing::list;
 

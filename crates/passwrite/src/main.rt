@@ -1,4 +1,6 @@
 // Words on standard input, a sheet on standard output, or the line that names what is wrong. Nothing is decided here.
+#![tactic(auto)]
+
 use libc::{STDIN_FILENO, STDOUT_FILENO};
 use reading::put_sheet;
 

@@ -1,5 +1,7 @@
 // The messages of a round are delivered: 11 deliver of a phase 1 message, and of a phase 2 message.
 // Each equals its definition in rules' specs/Calls.antt: the checks in the order of the refusal table, then the records that are left.
+#![tactic(auto)]
+
 ghost use Rattle.std.specs.Prelude.{◌≡◌};
 ghost use Rattle.checks.specs.Order.{tried_all};
 ghost use Rattle.rules.specs.Sane.{Sane};

@@ -1,3 +1,5 @@
 // Where each of the sixteen steps looks.
 // Each function equals its definition in rules' specs/Machine.antt.
+#![tactic(auto)]
+
 pub mod look;

@@ -1,4 +1,6 @@
 // Number 20: whether every number of every table is in its range.
+#![tactic(auto)]
+
 ghost use Rattle.std.specs.Prelude.{◌<◌, ◌≡◌, get_or};
 ghost use Rattle.rules.specs.Loops.{every_up_to};
 ghost use Rattle.rules.specs.Tables.{past_site, past_object, past_passage, past_visit, past_message, past_figures};

@@ -1,5 +1,7 @@
 // A text of words, byte by byte, into a sheet, or into the line that names what is wrong.
 // Each function equals its definition in words' specs/Scan.antt and specs/Sheets.antt.
+#![tactic(auto)]
+
 mod reader;
 
 ghost use Rattle.std.specs.Prelude.{◌+◌, ◌*◌, ◌≤◌, ◌<◌, ◌≡◌, length};

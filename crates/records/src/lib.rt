@@ -1,5 +1,7 @@
 // A record of 16 bytes as a step, and a step as a record. "Which fields each step names is one table."
 // Each function equals its definition in rules' specs/Record.antt.
+#![tactic(auto)]
+
 ghost use Rattle.std.specs.Prelude.{◌+◌, ◌*◌, ◌-◌, ◌%◌, ◌≤◌, ◌≡◌, get_or};
 ghost use Rattle.rules.specs.declared.steps.Step.{Step};
 ghost use Rattle.rules.specs.declared.steps.Reading.{Reading};

@@ -54,7 +54,7 @@ module _ (t : Tables) (beam margin : ℕ) (objects : List ℕ) (home slot quiesc
   few_by c (Ends.Unbegun r b e) = rw e (omega arith, omega arith)
   few_by c (Ends.GivenUp v r b w e) = rw e (omega arith, omega arith)
   few_by c (Ends.Committed v u fair b w e) =
-      rw e (ltb-false 8 (length objects) (or_right (eqb (length objects) 0) (ltb 8 (length objects)) fair.list-fair), omega arith)
+      rw e (ltb-false 8 (length objects) (or_right (eqb (length objects) 0) (ltb 8 (length objects)) fair.list_fair), omega arith)
 
   pub few_widths :
       ((cleared_of t beam margin objects home slot quiesce release).count ≤ 8)

@@ -1,5 +1,7 @@
 // What a clearance check says, put into the caller's buffer: the sheet run, the ship checked on the tables that it leaves, the verdict told.
 // Each function equals its definition in specs/Report.antt.
+#![tactic(auto)]
+
 ghost use Rattle.std.specs.Prelude.{◌+◌, ◌*◌, ◌≤◌, ◌≡◌, length};
 ghost use Rattle.buffer.specs.Text.{Puts};
 ghost use Rattle.clearing.specs.Clearing.{own_number};

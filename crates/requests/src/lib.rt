@@ -1,5 +1,7 @@
 // A request to a check, read from its words.
 // `read_request` equals its definition in specs/Requests.antt.
+#![tactic(auto)]
+
 ghost use Rattle.std.specs.Prelude.{◌+◌, ◌-◌, ◌*◌, ◌≤◌, ◌<◌, min, ◌≡◌, length, set};
 ghost use Rattle.requests.specs.Requests.{number_most, same, is_digit, no_request, request_of};
 ghost use Rattle.requests.specs.Walk.{words_from, number_in, WordEnds, NamedAt, AskedAt, list_read};

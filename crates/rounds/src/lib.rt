@@ -1,5 +1,7 @@
 // The mail of an open round goes out: 7 ask, 9 tell.
 // Each equals its definition in rules' specs/Rounds.antt: the checks in the order of the refusal table, then the records that are left.
+#![tactic(auto)]
+
 ghost use Rattle.std.specs.Prelude.{◌≡◌};
 ghost use Rattle.rules.specs.Sane.{Sane};
 ghost use Rattle.rules.specs.Rounds.{sent_out, ask_body, ask_of, tell_body, tell_of};

@@ -1,7 +1,7 @@
 -- Every decision is settled by its checks, of which none gives 20 and whose numbers rise: one row to a step and one to a message's body.
 -- That a refusal leaves what was seen, that no step gives 20, and that a refusal is the lowest that applies, is read from these rows. Assumes nothing.
 use Rattle.std.specs.Prelude.{ℕ, ◌<◌, ◌≤◌, ◌≡◌, refl, Bool, true, false, not, ◌&&◌, ◌||◌, List, [], ◌∷◌, eqb, leb, ltb}
-use Rattle.std.proofs.Common.{arith, sym, ⊎_elim, eq-eqb, ne_eqb, eqb-true, ltb-true}
+use Rattle.std.proofs.Common.{arith, sym, subst, ◌∙◌, ⊎_elim, eq-eqb, ne_eqb, eqb-true, ltb-true}
 use Rattle.std.proofs.lemmas.Bool.{false≢true}
 use Rattle.rules.specs.Types.{Body, Step, Refusal, Answer, Check, Seen, Found, Decision}
 use Rattle.rules.specs.Answers.{refuse, refusal_number, answer_number, is_accepted, first_refusal, settle_of}
@@ -52,15 +52,28 @@ rising_above (c ∷ cs) n k l e =
     let i : k < refusal_number c.gives = ltb-true _ _ (and_left _ (is_rising (refusal_number c.gives) cs) e) in
     (λ h. omega arith, rising_above cs n (refusal_number c.gives) (omega arith) (and_right (ltb k (refusal_number c.gives)) _ e))
 
+first_given : (c : Check) (cs : List Check) (v : ℕ) → c.holds ≡ true → first_refusal (c ∷ cs) v ≡ Answer.Refused c.gives
+unfolding first_refusal
+first_given c cs v h = rw h
+
+first_passed : (c : Check) (cs : List Check) (v : ℕ) → c.holds ≡ false → first_refusal (c ∷ cs) v ≡ first_refusal cs v
+unfolding first_refusal
+first_passed c cs v h = rw h
+
 -- so the first that holds is the lowest that holds
 first_lowest : (cs : List Check) (v k : ℕ) → is_rising k cs ≡ true → NoneBelow (answer_number (first_refusal cs v)) cs
-unfolding first_refusal
 first_lowest [] v k e = tt
 first_lowest (c ∷ cs) v k e =
     let rest : is_rising (refusal_number c.gives) cs ≡ true = and_right (ltb k (refusal_number c.gives)) _ e in
     ⊎_elim
-    (λ h. rw h (λ y. omega arith, rising_above cs (refusal_number c.gives) (refusal_number c.gives) (omega arith) rest))
-    (λ h. rw h (λ y. absurd (false≢true y), first_lowest cs v (refusal_number c.gives) rest))
+    (λ h. subst
+    (λ (a : Answer). NoneBelow (answer_number a) (c ∷ cs))
+    (sym (first_given c cs v h))
+    (λ y. omega arith, rising_above cs (refusal_number c.gives) (refusal_number c.gives) (omega arith) rest))
+    (λ h. subst
+    (λ (a : Answer). NoneBelow (answer_number a) (c ∷ cs))
+    (sym (first_passed c cs v h))
+    (λ y. absurd (false≢true (sym h ∙ y)), first_lowest cs v (refusal_number c.gives) rest))
     (either c.holds)
 
 -- a refusal whose check holds has a number above those of the checks before

@@ -2,7 +2,7 @@
 use crate::tables::{Message, Object, Passage, Site, Visit};
 
 // Which message slot a step looks at: none, the one that it names, or the lowest empty one.
-#[derive(Drop)]
+#[derive(Clone, Copy)]
 pub enum MailAt {
     Nowhere,
     Given(u8),
@@ -10,14 +10,14 @@ pub enum MailAt {
 }
 
 // Which passage slot: that of the slot or handle that it names, or of its message's handle.
-#[derive(Drop)]
+#[derive(Clone, Copy)]
 pub enum SlotAt {
     Given(u16),
     Mail,
 }
 
 // Which site: the one that it names, the passage's home, or its message's destination.
-#[derive(Drop)]
+#[derive(Clone, Copy)]
 pub enum SiteAt {
     Given(u8),
     Home,
@@ -25,7 +25,7 @@ pub enum SiteAt {
 }
 
 // Whether a step goes on through the sixteen slots of a site.
-#[derive(Drop)]
+#[derive(Clone, Copy)]
 pub enum Trip {
     Nowhere,
     Sweep(u8),
@@ -33,7 +33,7 @@ pub enum Trip {
 }
 
 // Where a step looks, as its fields name it.
-#[derive(Drop)]
+#[derive(Clone, Copy)]
 pub struct Look {
     pub mail: MailAt,
     pub slot: SlotAt,
@@ -42,7 +42,7 @@ pub struct Look {
 }
 
 // Where the records that a step sees stand: its site, its passage slot, the site whose four objects it sees, its message.
-#[derive(Drop)]
+#[derive(Clone, Copy)]
 pub struct Places {
     pub site: usize,
     pub slot: usize,
@@ -51,14 +51,14 @@ pub struct Places {
 }
 
 // What looking finds beside the records: the message slot that a new message takes, and whether a visit or message of the passage slot remains.
-#[derive(Drop)]
+#[derive(Clone, Copy)]
 pub struct Found {
     pub place: usize,
     pub remains: bool,
 }
 
 // The records that a step sees, and all that it can change.
-#[derive(Drop)]
+#[derive(Clone, Copy)]
 pub struct Seen {
     pub site: Site,
     pub passage: Passage,

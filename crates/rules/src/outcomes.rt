@@ -3,7 +3,7 @@ use crate::looking::Seen;
 use crate::tables::Tables;
 
 // The refusals in the order in which documents 01 and 02 list them. Their numbers are in specs/Answers.antt.
-#[derive(Drop)]
+#[derive(Clone, Copy)]
 pub enum Refusal {
     OutOfRange,
     NoStep,
@@ -22,28 +22,28 @@ pub enum Refusal {
     NoRoundLeft,
 }
 
-#[derive(Drop)]
+#[derive(Clone, Copy)]
 pub enum Answer {
     Accepted(u64),
     Refused(Refusal),
 }
 
 // One line of the refusal table at a step: if it holds, this is the refusal.
-#[derive(Drop)]
+#[derive(Clone, Copy)]
 pub struct Check {
     pub holds: bool,
     pub gives: Refusal,
 }
 
 // What a step decides from what it saw: its answer, and the records that it leaves.
-#[derive(Drop)]
+#[derive(Clone, Copy)]
 pub struct Decision {
     pub answer: Answer,
     pub left: Seen,
 }
 
 // What a step on the tables gives: its answer, and the tables that it leaves.
-#[derive(Drop)]
+#[derive(Clone, Copy)]
 pub struct Outcome {
     pub answer: Answer,
     pub tables: Tables,

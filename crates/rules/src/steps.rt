@@ -1,6 +1,6 @@
 // The sixteen steps. Each field has the width that its record gives it, so that any number can be said.
 
-#[derive(Drop)]
+#[derive(Clone, Copy)]
 pub enum Step {
     Tick {
         site: u8,
@@ -65,7 +65,7 @@ pub enum Step {
 }
 
 // The fields of a record of 16 bytes: code, a, b, c, the handle, the two zero bytes, u and v.
-#[derive(Drop)]
+#[derive(Clone, Copy)]
 pub struct Fields {
     pub code: u8,
     pub a: u8,
@@ -78,14 +78,14 @@ pub struct Fields {
 }
 
 // What a record of 16 bytes stands for: a step, or none (refusal 1).
-#[derive(Drop)]
+#[derive(Clone, Copy)]
 pub enum Reading {
     Nothing,
     Known(Step),
 }
 
 // What a sheet's reader says of it: taken, or one of the four sheet refusals in their order.
-#[derive(Drop)]
+#[derive(Clone, Copy)]
 pub enum SheetAnswer {
     Taken,
     TooLong,

@@ -2,21 +2,21 @@
 // The first variant of each enum is the one that an empty place holds.
 
 // A lock station: its clock, 0..2,000,000,000, and whether it is up.
-#[derive(Drop)]
+#[derive(Clone, Copy)]
 pub struct Site {
     pub clock: u64,
     pub up: bool,
 }
 
 // Who holds an object: a passage slot, 0..15, or nobody.
-#[derive(Drop)]
+#[derive(Clone, Copy)]
 pub enum Holder {
     Nobody,
     Slot(u8),
 }
 
 // A width figure in mm, 0..1,000,000, its holder, and the value before the holder took it.
-#[derive(Drop)]
+#[derive(Clone, Copy)]
 pub struct Object {
     pub value: u32,
     pub holder: Holder,
@@ -24,7 +24,7 @@ pub struct Object {
 }
 
 // What a site answers in a round: the calls that it sent to each site, the calls that it received, its quiesce time.
-#[derive(Drop)]
+#[derive(Clone, Copy)]
 pub struct Figures {
     pub sent: [u16; 8],
     pub received: u16,
@@ -32,7 +32,7 @@ pub struct Figures {
 }
 
 // What a round is for. A refresh carries its new quiesce and release times.
-#[derive(Drop)]
+#[derive(Clone, Copy)]
 pub enum Kind {
     None,
     Refresh { quiesce: u32, release: u32 },
@@ -40,7 +40,7 @@ pub enum Kind {
     Prepare,
 }
 
-#[derive(Drop)]
+#[derive(Clone, Copy)]
 pub enum Phase {
     None,
     One,
@@ -48,7 +48,7 @@ pub enum Phase {
 }
 
 // A passage's round, number 0..1,000. Bit s of answered is set once site s has answered, and its figures stand at s.
-#[derive(Drop)]
+#[derive(Clone, Copy)]
 pub struct Round {
     pub number: u16,
     pub kind: Kind,
@@ -57,7 +57,7 @@ pub struct Round {
     pub figures: [Figures; 8],
 }
 
-#[derive(Drop)]
+#[derive(Clone, Copy)]
 pub enum Status {
     Free,
     Active,
@@ -67,7 +67,7 @@ pub enum Status {
 }
 
 // A passage slot. Its handle is slot + 16 * generation.
-#[derive(Drop)]
+#[derive(Clone, Copy)]
 pub struct Passage {
     pub status: Status,
     pub home: u8,
@@ -76,7 +76,7 @@ pub struct Passage {
 }
 
 // A passage's visit at a site, at place 16 * site + slot: its times, its round, its marks, its calls.
-#[derive(Drop)]
+#[derive(Clone, Copy)]
 pub struct Visit {
     pub there: bool,
     pub quiesce: u32,
@@ -89,7 +89,7 @@ pub struct Visit {
 }
 
 // A call in flight: the caller's times and round, and the operation.
-#[derive(Drop)]
+#[derive(Clone, Copy)]
 pub struct Call {
     pub quiesce: u32,
     pub release: u32,
@@ -100,7 +100,7 @@ pub struct Call {
 }
 
 // What a phase 1 message asks: a refresh with its new release time, a terminate or a prepare.
-#[derive(Drop)]
+#[derive(Clone, Copy)]
 pub enum Asked {
     Refresh(u32),
     Terminate,
@@ -108,7 +108,7 @@ pub enum Asked {
 }
 
 // What a phase 2 message tells: a refresh with its new quiesce time, a terminate with M, or a prepare.
-#[derive(Drop)]
+#[derive(Clone, Copy)]
 pub enum Told {
     Refresh(u32),
     Terminate(u32),
@@ -116,7 +116,7 @@ pub enum Told {
 }
 
 // What a message slot holds. The calls that an answer reports as sent stand beside it in the message.
-#[derive(Drop)]
+#[derive(Clone, Copy)]
 pub enum Body {
     Empty,
     Call(Call),
@@ -138,7 +138,7 @@ pub enum Body {
     },
 }
 
-#[derive(Drop)]
+#[derive(Clone, Copy)]
 pub struct Message {
     pub body: Body,
     pub source: u8,
@@ -149,7 +149,7 @@ pub struct Message {
 }
 
 // The whole state of the machine. Object k stands at site k / 4.
-#[derive(Drop)]
+#[derive(Clone, Copy)]
 pub struct Tables {
     pub sites: [Site; 8],
     pub objects: [Object; 32],

@@ -1,6 +1,8 @@
 // The machine at work: the records of a part, one after the other, from the start.
 // Who wants a listing, or words, or figures, takes the answers from here and knows nothing of the tables.
 // Who wants the tables that a part leaves takes them from here too.
+#![tactic(auto)]
+
 ghost use Rattle.std.specs.Prelude.{◌+◌, ◌*◌, ◌/◌, ◌≤◌, ◌≡◌, [], ◌∷◌, length};
 ghost use Rattle.rules.specs.Answers.{answer_number, answer_value};
 ghost use Rattle.rules.specs.Runs.{run_records_of};

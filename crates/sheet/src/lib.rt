@@ -1,5 +1,7 @@
 // The sheet: heading, records of 16 bytes, trailer of 8 bytes. Reads the trailer, hands back the part that holds the records, and a record of it.
 // Each function equals its definition in rules' specs/Sheet.antt.
+#![tactic(auto)]
+
 ghost use Rattle.std.specs.Prelude.{◌+◌, ◌*◌, ◌≤◌, ◌≡◌, length};
 ghost use Rattle.rules.specs.Sheet.{distance_of, has_mark, sheet_answer, sheet_number, sheet_records, record_at};
 

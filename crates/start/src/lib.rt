@@ -1,4 +1,6 @@
 // The start: clocks 0, sites up, slots free, objects 0 and unheld, no visits, no messages. Each table is one repeated record.
+#![tactic(auto)]
+
 ghost use Rattle.std.specs.Prelude.{◌≡◌};
 ghost use Rattle.rules.specs.Tables.{start};
 

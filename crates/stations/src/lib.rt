@@ -1,5 +1,7 @@
 // Time passes at a station: 1 tick, 13 sweep.
 // Each equals its definition in rules' specs/Stations.antt: the checks in the order of the refusal table, then the records that are left.
+#![tactic(auto)]
+
 ghost use Rattle.std.specs.Prelude.{◌≡◌};
 ghost use Rattle.rules.specs.Sane.{Sane};
 ghost use Rattle.rules.specs.Stations.{tick_of, sweep_of, is_swept, swept_passage, swept_slot};

@@ -1,5 +1,7 @@
 // What passread prints, put into the caller's buffer.
 // Each function equals its definition in words' specs/Tell.antt, or in specs/Numbers.antt, where an answer goes by its numbers.
+#![tactic(auto)]
+
 ghost use Rattle.std.specs.Prelude.{◌+◌, ◌*◌, ◌≤◌, ◌≡◌, length, take};
 ghost use Rattle.buffer.specs.Text.{Puts};
 ghost use Rattle.words.specs.Say.{record_text};

@@ -1,5 +1,7 @@
 // The text form of a sheet: one step to a line, in document 01's own words.
 // The types of its grammar and of its reader; what they mean is said in specs/.
+#![tactic(auto)]
+
 pub mod rows;
 pub mod scan;
 pub mod tokens;

@@ -1,6 +1,8 @@
 // A record's work for a runner that holds the tables itself, turn by turn.
 // The first turn is the step's own; for a sweep or a crash turn k + 1 is that of slot k.
 // Every turn looks, decides and stores in the same way, but that only the first reads a message and stores one.
+#![tactic(auto)]
+
 ghost use Rattle.std.specs.Prelude.{◌≤◌, ◌<◌, ◌≡◌};
 ghost use Rattle.rules.specs.Sane.{Sane};
 ghost use Rattle.rules.specs.Machine.{trip_site};

@@ -259,7 +259,7 @@ module _ (P : View → Ledger → Type 0) (Way : Trip → View → Type 0) (carr
       (λ a. (
         pledged_after_head t step c.ledgers c.pledged a,
         head_carried t step c.ledgers c.pledged a r c.has,
-        carries.sets-out t step p (c.ledgers p) c.pledged.kept.sound a c.has,
+        carries.sets_out t step p (c.ledgers p) c.pledged.kept.sound a c.has,
       ))
       e in
       record { ledgers = _; pledged = done.0; has = done.1 }

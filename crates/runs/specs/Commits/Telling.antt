@@ -123,7 +123,7 @@ module _ (w : View) (a k : ℕ) (p : Passage) (v : Visit) (l : Ledger) (h : Hold
   answered_moved (Move.Aborts runs e x i z) committed = absurd (aborted_not_committed (ap (λ (q : Passage). q.status) (sym e) ∙ committed))
   answered_moved (Move.Receives call body at e x early i z) committed =
       let tells = committed_tells w.passage o.round (ap (λ (q : Passage). q.status) (sym e) ∙ committed) in
-      absurd (((h.passage.closed-quiet tells.1 (rw tells.0)).mail k).call call body)
+      absurd (((h.passage.closed_quiet tells.1 (rw tells.0)).mail k).call call body)
   answered_moved (Move.Answers n asked body e was live below x i silent back uncalled) committed = answered_stays e (λ there. was) committed
   answered_moved (Move.Hears n told body e was x i z) committed = answered_stays e (λ there. was) committed
   answered_moved (Move.Keeps n r q body number at e x i stamp z) committed =

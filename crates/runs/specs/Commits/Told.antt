@@ -270,7 +270,7 @@ commit_can_be_told {t₀} fresh ss p s m slot committed there up room station-up
 
     taken : is_accepted (step_of next (Step.Deliver place)).answer ≡ true
     taken =
-        word_accepted next place (passage_at t p).round.number p s sent.place-below word sent.destination station (ap slot_of sent.handle ∙ mine)
+        word_accepted next place (passage_at t p).round.number p s sent.place_below word sent.destination station (ap slot_of sent.handle ∙ mine)
         (in_range_step t (tell_to t p s) k.pledged.kept.range)
         (rw site_same station-up)
         (rw visit_same there)
@@ -280,7 +280,7 @@ commit_can_be_told {t₀} fresh ss p s m slot committed there up room station-up
 
     gone : (visit_at last s p).there ≡ false
     gone =
-        word_takes next place (passage_at t p).round.number p s sent.place-below word sent.destination station (ap slot_of sent.handle ∙ mine)
+        word_takes next place (passage_at t p).round.number p s sent.place_below word sent.destination station (ap slot_of sent.handle ∙ mine)
         (sound_step t (tell_to t p s) k.pledged.kept.sound)
         taken
 

@@ -157,7 +157,7 @@ module _ (w : View) (l : Ledger) (a k c source : ℕ) (v : Visit) (m : Message) 
       record {
         asked = λ kind one now r. absurd (((h.mail k).call call body).bound (rw kind) (let y : v.round ≡ call.round = round ∙ (rw e) in sym y ∙ r));
         gone = λ kind one was y. there;
-        told = λ kind two now. absurd (((h.passage.closed-quiet two (rw kind)).mail k).call call body);
+        told = λ kind two now. absurd (((h.passage.closed_quiet two (rw kind)).mail k).call call body);
       })
       (either (w.visit a).there)
 

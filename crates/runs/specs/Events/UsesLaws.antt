@@ -59,7 +59,7 @@ module _ (p u k : ℕ) where
         all = ap (λ (l : List PassageEvent). x ∷ l) h.all;
         of = h.of;
         took = h.took;
-        not_freed = h.not-freed;
+        not_freed = h.not_freed;
       }))
       (held_taken xs _ e)
     where
@@ -81,7 +81,7 @@ module _ (p u k : ℕ) where
   taken_is_listed es x =
       ap (λ (l : List PassageEvent). held_in l p u k) x.all
       ∙ since_joined x.before (x.taking ∷ x.since) p u k false
-      ∙ (rw (x.of, x.took) (unfreed_held x.since x.not-freed))
+      ∙ (rw (x.of, x.took) (unfreed_held x.since x.not_freed))
 
 -- ---- every run, in these words
 

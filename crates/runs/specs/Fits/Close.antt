@@ -47,7 +47,7 @@ module _ (w : View) (l : Ledger) (a source : ℕ) (h : Holds w l)
       q
       (holds_after_closed w l h one closed)
       was
-      ((holds_after_closed w l h one closed).passage.refresh-two q r refl e)
+      ((holds_after_closed w l h one closed).passage.refresh_two q r refl e)
       (λ y. false≢true (sym (ap is_binding e) ∙ y.binding))
       (λ y. absurd (false≢true (sym (ap is_binding e) ∙ y))))
   told_at_home Kind.Terminate e n was =

@@ -117,7 +117,7 @@ module _ (w : View) (l : Ledger) (h : Holds w l) (s k d handle stamp : ℕ) (c :
             (λ (q : ℕ). Below invoked_view invoked_ledger q)
             (sym same_quiesce)
             (touched_below invoked_touch (l s).last.quiesce sender.times);
-        refresh_one = λ q r e u n. rw same_release (sender.refresh-one q r e (sym same_round ∙ n));
+        refresh_one = λ q r e u n. rw same_release (sender.refresh_one q r e (sym same_round ∙ n));
         bound = λ b n. invoked_touch.settled sender_seen b (sym same_round ∙ n);
       }
 
@@ -283,10 +283,10 @@ module _ (w : View) (l : Ledger) (h : Holds w l) (k a : ℕ) (c : Call)
           times =
               rw made_same (touched_below made_touch c.quiesce f.times);
           refresh_one =
-              λ q r e n. rw made_same (f.refresh-one q r e (rw (← at) never_twice) (rw made_same at n));
+              λ q r e n. rw made_same (f.refresh_one q r e (rw (← at) never_twice) (rw made_same at n));
           bound = λ b n. absurd (f.bound b (rw made_same at n));
           gone = λ e. absurd (true≢false (rw (put_same w.visit a made) at e));
-          largest = λ e n. absurd (call_busy (h.passage.closed-quiet e (rw n)));
+          largest = λ e n. absurd (call_busy (h.passage.closed_quiet e (rw n)));
         }
 
     made_fair :

@@ -59,7 +59,7 @@ module _ (w : View) (l : Ledger) (h : Holds w l)
       → is_over (told_status (told_of k m) w.passage.status) ≡ true
   closed_over Kind.None m e b = absurd (false≢true b)
   closed_over (Kind.Refresh q r) m e b = absurd (false≢true b)
-  closed_over Kind.Terminate m e b = rw (h.passage.terminate-aborted e not_none)
+  closed_over Kind.Terminate m e b = rw (h.passage.terminate_aborted e not_none)
   closed_over Kind.Prepare m e b = refl
 
   -- when the round binds, no call is in flight after the close
@@ -135,16 +135,16 @@ module _ (w : View) (l : Ledger) (h : Holds w l)
   pub closed_below : (q r : ℕ) → w.passage.round.kind ≡ Kind.Refresh q r → Below w l q
   closed_below q r e =
       let y : is_refresh w.passage.round.kind ≡ true = rw e in
-      let i : q ≤ r = h.passage.refresh-one q r e in
+      let i : q ≤ r = h.passage.refresh_one q r e in
       record {
         visits =
             λ t s.
-            let x : r ≤ (l t).last.release = (h.sites t s).refresh-one q r e (refreshed_round y t s) in
+            let x : r ≤ (l t).last.release = (h.sites t s).refresh_one q r e (refreshed_round y t s) in
             omega arith;
         calls =
             λ k c b s.
             let x : r ≤ c.release =
-            (call_says w l h k c b).refresh-one q r e s (closing_making w l h one closed y k c b s) in
+            (call_says w l h k c b).refresh_one q r e s (closing_making w l h one closed y k c b s) in
             omega arith;
       }
 
@@ -159,7 +159,7 @@ module _ (w : View) (l : Ledger) (h : Holds w l)
       h
       (λ e. closed_not_free (free_told (round_told w.passage.round) w.passage.status e))
       (over_told (round_told w.passage.round) w.passage.status)
-      (λ e. h.passage.home-answers not_none)
+      (λ e. h.passage.home_answers not_none)
       (λ q r e k. closed_below q r k)
       (λ e b. closed_is_quiet b)
       (λ s e z k. rw (largest_phase Phase.Two) (closed_largest (rw k) s e))
@@ -168,4 +168,4 @@ module _ (w : View) (l : Ledger) (h : Holds w l)
       aborted :
           w.passage.round.kind ≡ Kind.Terminate → Phase.Two ≢ Phase.None
           → told_status (round_told w.passage.round) w.passage.status ≡ Status.Aborted
-      aborted k n = rw (k, h.passage.terminate-aborted k not_none)
+      aborted k n = rw (k, h.passage.terminate_aborted k not_none)

@@ -62,7 +62,7 @@ module _ (w : View) (l : Ledger) (h : Holds w l)
   all_answer k shows zero u d s j = absurd (not-suc-le-zero d)
   all_answer k shows (suc b) u d s j =
       ⊎_elim
-      (λ e. rw e (h.passage.home-answers (λ none. false≢true (ap is_phase_one (sym none ∙ one)))))
+      (λ e. rw e (h.passage.home_answers (λ none. false≢true (ap is_phase_one (sym none ∙ one)))))
       (λ n.
       let x = h.sites u s in
       let y = x.edge n in

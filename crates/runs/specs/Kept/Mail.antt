@@ -234,13 +234,13 @@ module _ (w : View) (l : Ledger) (k site h stamp : ℕ) (g : Holds w l)
       record {
         seen = f.seen;
         number = let i : (l site).last.round ≡ w.passage.round.number = f.answered in omega arith;
-        late = λ i. mail_below w l k _ g tell_letter q (g.passage.refresh-two q r two (sym e));
+        late = λ i. mail_below w l k _ g tell_letter q (g.passage.refresh_two q r two (sym e));
         kind = λ i. sym (ap is_refresh e);
       }
   tell_fine Kind.Terminate e n =
-      (mail_quiet w l k _ g tell_letter (g.passage.closed-quiet two (sym (ap is_binding e))), λ s y. (g.sites s y).largest two (sym e))
+      (mail_quiet w l k _ g tell_letter (g.passage.closed_quiet two (sym (ap is_binding e))), λ s y. (g.sites s y).largest two (sym e))
   tell_fine Kind.Prepare e n =
-      mail_quiet w l k _ g tell_letter (g.passage.closed-quiet two (sym (ap is_binding e)))
+      mail_quiet w l k _ g tell_letter (g.passage.closed_quiet two (sym (ap is_binding e)))
 
   pub holds_after_tell :
       w.passage.round.kind ≢ Kind.None

@@ -112,11 +112,11 @@ module _ (w : View) (l : Ledger) (status : Status) (phase : Phase) (answered : �
               mask = x.mask;
               figures = x.eight;
               kept = λ v i e. figure_alike v _ (x.kept v _ (i, e, refl));
-              home_answers = x.home-answers;
-              refresh_one = h.passage.refresh-one;
-              refresh_two = λ q r e k. below_alike q (x.refresh-two q r e k);
-              closed_quiet = x.closed-quiet;
-              terminate_aborted = x.terminate-aborted;
+              home_answers = x.home_answers;
+              refresh_one = h.passage.refresh_one;
+              refresh_two = λ q r e k. below_alike q (x.refresh_two q r e k);
+              closed_quiet = x.closed_quiet;
+              terminate_aborted = x.terminate_aborted;
             };
         balance = h.balance;
       }
@@ -247,7 +247,7 @@ module _ (w : View) (l : Ledger) (s : ℕ) (f : Figures) (h : Holds w l) (i : s 
         refresh_two = λ q r e. absurd (open' e);
         closed_quiet = λ e. absurd (open' e);
         largest = λ t y e. absurd (open' e);
-        terminate_aborted = h.passage.terminate-aborted;
+        terminate_aborted = h.passage.terminate_aborted;
       })
       h
     where
@@ -259,5 +259,5 @@ module _ (w : View) (l : Ledger) (s : ℕ) (f : Figures) (h : Holds w l) (i : s 
           (λ (q : w.passage.home ≡ s). rw q (answered_here w.passage.round s f i))
           (λ n.
           answered_other w.passage.round s f i w.passage.home h.passage.home n
-          ∙ h.passage.home-answers e)
+          ∙ h.passage.home_answers e)
           (same_or_other w.passage.home s)

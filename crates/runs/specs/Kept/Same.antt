@@ -41,7 +41,7 @@ module _ (w : View) (status : Status) (phase : Phase) (answered : ℕ) (figures 
         number = h.number;
         edge = edges m.source m.destination c.round h.edge;
         times = below c.quiesce h.times;
-        refresh_one = h.refresh-one;
+        refresh_one = h.refresh_one;
         bound = h.bound;
       }
 
@@ -81,7 +81,7 @@ module _ (w : View) (status : Status) (phase : Phase) (answered : ℕ) (figures 
         tree = h.tree;
         edge = λ n. edges (l s).caller s (l s).born (h.edge n);
         times = below (l s).last.quiesce h.times;
-        refresh_one = h.refresh-one;
+        refresh_one = h.refresh_one;
         bound = λ b e. let x : (l s).last.quiesce ≤ w.clock s = h.bound b e in omega arith;
         gone = λ e. ⊎_elim (λ g. was (h.gone g)) (λ g. now g) (went e);
         largest = largest;

@@ -81,11 +81,11 @@ module _ (w : View) (visit : ℕ → Visit) (clock : ℕ → ℕ) (mail : ℕ �
         mask = h.mask;
         figures = h.figures;
         kept = λ v i e. figure_around v _ (h.kept v i e);
-        home_answers = h.home-answers;
-        refresh_one = h.refresh-one;
-        refresh_two = λ q r e k. below q (h.refresh-two q r e k);
-        closed_quiet = λ e b. quiet (h.closed-quiet e b);
-        terminate_aborted = h.terminate-aborted;
+        home_answers = h.home_answers;
+        refresh_one = h.refresh_one;
+        refresh_two = λ q r e k. below q (h.refresh_two q r e k);
+        closed_quiet = λ e b. quiet (h.closed_quiet e b);
+        terminate_aborted = h.terminate_aborted;
       }
 
 -- ---- the law

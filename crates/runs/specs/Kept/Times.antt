@@ -59,7 +59,7 @@ module _ (w : View) (l : Ledger) (a : ℕ) (v : Visit) (h : Holds w l) (was : (w
         here = below_le w l v.quiesce (w.visit a).quiesce down (rw last_here at fine_here.times);
         others = λ s e. (h.sites s e).times;
         calls = λ k c e. (call_says w l h k c e).times;
-        two = h.passage.refresh-two;
+        two = h.passage.refresh_two;
         late = λ k n q e i. (late_says w l h k n q e).late i;
         refresh_one = one;
         bound = bound;
@@ -84,7 +84,7 @@ module _ (w : View) (l : Ledger) (a : ℕ) (v : Visit) (h : Holds w l) (was : (w
   pub one_here :
       (q r : ℕ) → w.passage.round.kind ≡ Kind.Refresh q r → (w.visit a).round ≡ w.passage.round.number
       → r ≤ (w.visit a).release
-  one_here q r k e = rw last_here at (fine_here.refresh-one q r k (rw last_here e))
+  one_here q r k e = rw last_here at (fine_here.refresh_one q r k (rw last_here e))
 
   pub bound_here :
       is_binding w.passage.round.kind ≡ true → (w.visit a).round ≡ w.passage.round.number
@@ -204,13 +204,13 @@ holds_after_told_refresh w l a q h was b restless loose =
       here = larger (rw last at (h.sites a seen).times);
       others = λ s e. (h.sites s e).times;
       calls = λ k c e. (call_says w l h k c e).times;
-      two = h.passage.refresh-two;
+      two = h.passage.refresh_two;
       late = λ k n p e i. (late_says w l h k n p e).late i;
       refresh_one = one_here w l a (w.visit a) h was;
       bound = λ y e. absurd (loose y e);
       figure = λ y e. absurd (loose y e);
       quiet = λ y. absurd (restless y);
-      largest = λ p k. absurd (restless (h.passage.closed-quiet p (ap is_binding k)));
+      largest = λ p k. absurd (restless (h.passage.closed_quiet p (ap is_binding k)));
       told = λ k n x e. absurd (restless (terminate_says w l h k n x e).0);
     })
   where

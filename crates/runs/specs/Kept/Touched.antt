@@ -194,7 +194,7 @@ module _ {w : View} {l : Ledger} {a : ℕ} {v : Visit} {y : Past} {k : ℕ} {x :
         number = h.number;
         edge = edge_touched m.source m.destination c.round h.edge;
         times = touched_below c.quiesce h.times;
-        refresh_one = λ q r e u. h.refresh-one q r e (unseen_at m.destination u);
+        refresh_one = λ q r e u. h.refresh_one q r e (unseen_at m.destination u);
         bound = h.bound;
       }
 
@@ -227,11 +227,11 @@ module _ {w : View} {l : Ledger} {a : ℕ} {v : Visit} {y : Past} {k : ℕ} {x :
         mask = h.mask;
         figures = h.figures;
         kept = λ s i e. figure_touched s _ (h.kept s i e);
-        home_answers = h.home-answers;
-        refresh_one = h.refresh-one;
-        refresh_two = λ q r e z. touched_below q (h.refresh-two q r e z);
-        closed_quiet = λ e b. absurd (t.busy (h.closed-quiet e b));
-        terminate_aborted = h.terminate-aborted;
+        home_answers = h.home_answers;
+        refresh_one = h.refresh_one;
+        refresh_two = λ q r e z. touched_below q (h.refresh_two q r e z);
+        closed_quiet = λ e b. absurd (t.busy (h.closed_quiet e b));
+        terminate_aborted = h.terminate_aborted;
       }
 
   -- at a site that was seen
@@ -249,7 +249,7 @@ module _ {w : View} {l : Ledger} {a : ℕ} {v : Visit} {y : Past} {k : ℕ} {x :
             rw (e.caller, e.depth, u.depth) (h.tree n);
         edge = λ n. rw (e.caller, e.born) (edge_touched (l s).caller s (l s).born (h.edge n));
         times = rw e.quiesce (touched_below (l s).last.quiesce h.times);
-        refresh_one = λ q r z i. rw e.release (h.refresh-one q r z (sym e.round ∙ i));
+        refresh_one = λ q r z i. rw e.release (h.refresh_one q r z (sym e.round ∙ i));
         bound = λ b i. rw e.quiesce (h.bound b (sym e.round ∙ i));
         gone =
             λ z.

@@ -208,7 +208,7 @@ module _ (w : View) (l : Ledger) (a : ℕ) (v : Visit) (Needed : ℕ → Type 0)
               number = g.number;
               edge = visit_edge m.source m.destination c.round g.edge;
               times = below c.quiesce (x.calls k c e);
-              refresh_one = λ q r o n. g.refresh-one q r o (sym (seen_same m.destination) ∙ n);
+              refresh_one = λ q r o n. g.refresh_one q r o (sym (seen_same m.destination) ∙ n);
               bound = g.bound;
             };
         one = λ n d e. let g = h.one n d e in record { number = g.number; away = g.away; kind = g.kind };
@@ -233,7 +233,7 @@ module _ (w : View) (l : Ledger) (a : ℕ) (v : Visit) (Needed : ℕ → Type 0)
         tree = λ m. rw (o, depth_same (l s).caller) (g.tree m);
         edge = λ m. rw o (visit_edge (l s).caller s (l s).born (g.edge m));
         times = rw o (below (l s).last.quiesce (x.others s e));
-        refresh_one = λ q r k m. rw o (g.refresh-one q r k (rw o at m));
+        refresh_one = λ q r k m. rw o (g.refresh_one q r k (rw o at m));
         bound = λ b m. rw o (g.bound b (rw o at m));
         gone = λ m. rw o (gone_other s n m g);
         largest = λ p k. rw o (g.largest p k);
@@ -255,7 +255,7 @@ module _ (w : View) (l : Ledger) (a : ℕ) (v : Visit) (Needed : ℕ → Type 0)
         tree = λ m. rw (o, depth_same (l a).caller) (g.tree m);
         edge = λ m. rw o (visit_edge (l a).caller a (l a).born (g.edge m));
         times = rw o (below v.quiesce x.here);
-        refresh_one = λ q r k m. rw o (x.refresh-one q r k (rw o at m));
+        refresh_one = λ q r k m. rw o (x.refresh_one q r k (rw o at m));
         bound = λ b m. rw o (x.bound b (rw o at m));
         gone =
             λ m.
@@ -296,11 +296,11 @@ module _ (w : View) (l : Ledger) (a : ℕ) (v : Visit) (Needed : ℕ → Type 0)
               mask = h.passage.mask;
               figures = h.passage.figures;
               kept = λ s i e. figure s _ (h.passage.kept s i e);
-              home_answers = h.passage.home-answers;
-              refresh_one = h.passage.refresh-one;
+              home_answers = h.passage.home_answers;
+              refresh_one = h.passage.refresh_one;
               refresh_two = λ q r e k. below q (x.two q r e k);
-              closed_quiet = λ e b. quiet (h.passage.closed-quiet e b);
-              terminate_aborted = h.passage.terminate-aborted;
+              closed_quiet = λ e b. quiet (h.passage.closed_quiet e b);
+              terminate_aborted = h.passage.terminate_aborted;
             };
         balance =
             λ d.

@@ -220,7 +220,7 @@ delivered_as_sent t h site b k u z a now waits taken =
     let said = invoked_says t h site b k u z a in
     let sent : Tables = (step_of t (Step.Invoke h site b k u)).tables in
     let place : ℕ = answer_value (step_of t (Step.Invoke h site b k u)).answer in
-    let mail : place % 32 ≡ place = let l : place < 32 = said.place-below in omega arith in
+    let mail : place % 32 ≡ place = let l : place < 32 = said.place_below in omega arith in
     let same : message_at now (place % 32) ≡ message_at sent place = ap (message_at now) mail ∙ waits in
     record {
       does = rw (taken, same, said.handle, said.body, eq-eqb (slot_of h) (slot_of h) refl, said.object, eq-eqb k k refl) refl;

@@ -70,7 +70,7 @@ module _ (t : Tables) (ls : ℕ → Ledger) (k : Pledged t ls) (s p : ℕ) (slot
             let same : (ls p s).last.round ≡ (passage_at t p).round.number =
             subst (λ (x : ℕ). (ls p x).last.round ≡ (passage_at t p).round.number) source (((hold.mail j).answer n r q body).1 number).answered in
             absurd (open_unanswered (rw kind) same);
-        tells = λ kind two. absurd (open_not_quiet (hold.passage.closed-quiet two (rw kind)));
+        tells = λ kind two. absurd (open_not_quiet (hold.passage.closed_quiet two (rw kind)));
         word = λ j e. absurd (open_not_quiet (word_quiet j ((view_of t p).mail j).body refl e));
       }
     where
@@ -209,7 +209,7 @@ operation_before_let_go x s p k t step slot held (inl c) e =
     let called = called_by t p k step e in
     let tells = committed_tells (passage_at t p) (c.pledged.vows p slot).round c.has in
     absurd
-    ((((c.pledged.kept.slots p slot).passage.closed-quiet tells.1 (rw tells.0)).mail ((flat_of step).c % 32)).call called.call
+    ((((c.pledged.kept.slots p slot).passage.closed_quiet tells.1 (rw tells.0)).mail ((flat_of step).c % 32)).call called.call
     (own_body p (mail_named t step) (Body.Call called.call) called.body refl called.own))
 operation_before_let_go x s p k t step slot held (inr c) e =
     let z = c.pledged.kept.sound in

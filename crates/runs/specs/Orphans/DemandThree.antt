@@ -219,7 +219,7 @@ module _ {t₀ : Tables} (fresh : Started t₀) (before : List Step) (slot site 
             demand_three.swept after s a (omega arith);
         never_again =
             λ after later s a (r : latest_of_all Now slot ≤ (site_at (step_of (run_of Now after) (Step.Sweep site)).tables site).clock) n.
-            demand_three.never-again after later s a (omega arith) n;
+            demand_three.never_again after later s a (omega arith) n;
         in_time = drive (latest_of_all Now slot);
       }
 

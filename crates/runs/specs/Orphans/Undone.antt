@@ -38,13 +38,13 @@ rest_step t s k rest z e =
     held q (inl stands) = e ∙ sym stands ∙ (rw q)
     held q (inr (c, free)) = absurd (false≢true (sym q ∙ ap is_unheld free ∙ let_go_unheld (object_at t k).value))
 
-rest_from :
+rest_from_lem :
     (t : Tables) (ss : List Step) (k rest : ℕ) → Sound t → rest ≡ standing (object_at t k)
     → rest_from t ss k rest ≡ standing (object_at (run_of t ss) k)
 unfolding rest_from run_of
-rest_from t [] k rest z e = e
-rest_from t (s ∷ ss) k rest z e =
-    rest_from (step_of t s).tables ss k (rest_after (step_of t s).tables k rest) (sound_step t s z) (rest_step t s k rest z e)
+rest_from_lem t [] k rest z e = e
+rest_from_lem t (s ∷ ss) k rest z e =
+    rest_from_lem (step_of t s).tables ss k (rest_after (step_of t s).tables k rest) (sound_step t s z) (rest_step t s k rest z e)
 
 -- at the start nobody holds any
 started_at_rest : {t₀ : Tables} → Started t₀ → (k : ℕ) → is_at_rest t₀ k ≡ true
@@ -53,7 +53,7 @@ started_at_rest = started_unheld
 pub rest_is_standing : {t₀ : Tables} → Started t₀ → (ss : List Step) (k : ℕ) → rest_of t₀ ss k ≡ standing (object_at (run_of t₀ ss) k)
 unfolding rest_of
 rest_is_standing {t₀} fresh ss k =
-    rest_from t₀ ss k (object_at t₀ k).value (sound_started fresh) (sym (standing_unheld (object_at t₀ k) (started_at_rest fresh k)))
+    rest_from_lem t₀ ss k (object_at t₀ k).value (sound_started fresh) (sym (standing_unheld (object_at t₀ k) (started_at_rest fresh k)))
 
 -- so an object that is held has it as its value before
 pub before_is_rest :

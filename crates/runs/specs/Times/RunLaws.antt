@@ -108,7 +108,7 @@ module _ {t₀ : Tables} (fresh : Started t₀) (ss : List Step) (p : ℕ) (slot
       (passage_at Ran p).round.phase ≡ Phase.Two → is_binding (passage_at Ran p).round.kind ≡ true
       → (m : ℕ) (c : Call) → (message_at Ran m).body ≡ Body.Call c → slot_of (message_at Ran m).handle ≢ p
   no_call_after two binding m c e h =
-      ((holds_run.passage.closed-quiet two binding).mail m).call c (mine_body m c e h)
+      ((holds_run.passage.closed_quiet two binding).mail m).call c (mine_body m c e h)
 
   -- ---- a free slot has no visit and no message
 

@@ -57,7 +57,7 @@ settled_after_commit : (t : Tables) (ls : ℕ → Ledger) (p : ℕ) → p < 16 �
 settled_after_commit t ls p slot k committed =
     let tells = committed_tells (passage_at t p) (k.vows p slot).round committed in
     record {
-      silent = λ i. (((k.kept.slots p slot).passage.closed-quiet tells.1 (ap is_binding tells.0)).mail i).call;
+      silent = λ i. (((k.kept.slots p slot).passage.closed_quiet tells.1 (ap is_binding tells.0)).mail i).call;
       prepared = λ s there. ((k.vows p slot).told tells.0 tells.1 s there).0;
     }
 

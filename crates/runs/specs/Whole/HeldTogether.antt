@@ -134,7 +134,7 @@ since_read {t₀} fresh steps p k v x =
     (pledged_after_step t x.read (ledgers_of t₀ x.before) pledged)
     (held_after_read t p k v x.read z x.operated x.reads x.found)
     x.unwritten
-    (not_retired p t x.read x.since x.same-use).1)
+    (not_retired p t x.read x.since x.same_use).1)
 
 -- at any moment of a run, after the steps first: if p becomes committed by a later step and its slot is not retired until then,
 -- every object that it had read and not written since is held by it there, with the value that the read found

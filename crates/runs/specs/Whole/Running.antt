@@ -106,7 +106,7 @@ release_moved {w = w} {a = a} {v = v} l h runs (Move.Closes home one closed e x 
     let ends : w.passage.round.kind ≡ Kind.Terminate =
     tells_terminate w.passage.round.kind _ m (subst (λ (q : Phase). phase_fits w.passage.round.kind q ≡ true) one fits) told in
     running_not_over w.passage.status runs
-    (ap is_over (h.passage.terminate-aborted ends (λ none. false≢true (ap is_phase_one (sym none ∙ one))))))
+    (ap is_over (h.passage.terminate_aborted ends (λ none. false≢true (ap is_phase_one (sym none ∙ one))))))
     (ap (λ (u : Visit). u.there) (sym is) ∙ now))
 release_moved {w = w} {a = a} l h runs (Move.Aborts run e x i z) was now = rw (x, where_is (w.visit a) _ was) (omega arith)
 release_moved {w = w} {a = a} l h runs (Move.Receives call body at e x early i z) was now =
