@@ -7,7 +7,7 @@ use Rattle.std.proofs.Math.Seq.{append_snoc}
 use Rattle.rules.specs.declared.outcomes.Answer.{Answer}
 use Rattle.rules.specs.Answers.{answer_number, answer_value}
 use Rattle.rules.specs.Listing.{decimal_of, line_of, sheet_line}
-use Rattle.rules.specs.ListingLaws.{digits_length}
+use Rattle.rules.proofs.ListingLaws.{digits_length}
 
 -- the buffer with the text at `at`
 abbrev pub written : List ℕ → ℕ → List ℕ → List ℕ

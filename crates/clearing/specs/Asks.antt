@@ -20,9 +20,9 @@ use Rattle.rules.specs.Answers.{is_accepted}
 use Rattle.rules.specs.Parts.{next_clock, delivery_clock}
 use Rattle.rules.specs.Machine.{step_of}
 use Rattle.rules.specs.StoredLaws.{Sized}
-use Rattle.rules.specs.EffectsLaws.{ClockMoves}
-use Rattle.rules.specs.EffectsRounds.{Opened, prepare_effects, AskSent, ask_effects, close_effects}
-use Rattle.rules.specs.EffectsPhases.{AskDelivered, ask_delivered_effects, AnswerDelivered, answer_delivered_effects}
+use Rattle.rules.proofs.EffectsLaws.{ClockMoves}
+use Rattle.rules.proofs.EffectsRounds.{Opened, prepare_effects, AskSent, ask_effects, close_effects}
+use Rattle.rules.proofs.EffectsPhases.{AskDelivered, ask_delivered_effects, AnswerDelivered, answer_delivered_effects}
 use Rattle.clearing.specs.declared.Way.{Way}
 use Rattle.clearing.specs.Question.{listed, is_to_ask, has_object_at}
 use Rattle.clearing.specs.Clearing.{made, ask_one, asks_up_to, read_all, prepare_made, close_made}

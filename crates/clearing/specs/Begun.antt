@@ -11,8 +11,8 @@ use Rattle.rules.specs.Parts.{next_clock, is_phase_one}
 use Rattle.rules.specs.Answers.{is_accepted}
 use Rattle.rules.specs.Machine.{step_of}
 use Rattle.rules.specs.StoredLaws.{Storable, sized_after_step}
-use Rattle.rules.specs.EffectsPlaces.{in_range_after_accepted}
-use Rattle.rules.specs.EffectsLife.{Begun, begin_effects}
+use Rattle.rules.proofs.EffectsPlaces.{in_range_after_accepted}
+use Rattle.rules.proofs.EffectsLife.{Begun, begin_effects}
 use Rattle.clearing.specs.declared.Way.{Way}
 use Rattle.clearing.specs.Clearing.{handle_in, begun_of}
 use Rattle.clearing.specs.Underway.{Course, Between}

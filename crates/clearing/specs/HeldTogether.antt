@@ -18,10 +18,10 @@ use Rattle.rules.specs.Parts.{is_empty, is_held_by}
 use Rattle.rules.specs.Machine.{step_of}
 use Rattle.rules.specs.Record.{flat_of, is_step}
 use Rattle.rules.specs.StoredLaws.{Storable, sized_after_step}
-use Rattle.rules.specs.EffectsLaws.{accepted_answer}
-use Rattle.rules.specs.EffectsPlaces.{in_range_after_accepted}
-use Rattle.rules.specs.EffectsLife.{Aborted, abort_effects, abort_accepted}
-use Rattle.rules.specs.EffectsCalls.{Dropped, drop_effects, drop_accepted}
+use Rattle.rules.proofs.EffectsLaws.{accepted_answer}
+use Rattle.rules.proofs.EffectsPlaces.{in_range_after_accepted}
+use Rattle.rules.proofs.EffectsLife.{Aborted, abort_effects, abort_accepted}
+use Rattle.rules.proofs.EffectsCalls.{Dropped, drop_effects, drop_accepted}
 use Rattle.clearing.specs.declared.Way.{Way}
 use Rattle.clearing.specs.declared.Verdict.{Verdict}
 use Rattle.clearing.specs.declared.Cleared.{Cleared}

@@ -19,13 +19,13 @@ use Rattle.rules.specs.LoopsLaws.{either, cond_keeps, below_or_last}
 use Rattle.rules.specs.Tables.{site_at, object_at, passage_at, visit_at, message_at, object_site, slot_of}
 use Rattle.rules.specs.Answers.{is_accepted}
 use Rattle.rules.specs.Parts.{next_clock, delivery_clock, is_held_by, is_held_by_other, taken, operated}
-use Rattle.rules.specs.PartsLaws.{value_of_read, holder_of_called}
+use Rattle.rules.proofs.PartsLaws.{value_of_read, holder_of_called}
 use Rattle.rules.specs.Calls.{called_visit}
 use Rattle.rules.specs.Machine.{step_of}
-use Rattle.rules.specs.RangesFits.{CallFits, call_range_says}
-use Rattle.rules.specs.EffectsLaws.{OnlyObject}
-use Rattle.rules.specs.EffectsPlaces.{message_fits}
-use Rattle.rules.specs.EffectsCalls.{Invoked, invoke_effects, CallDelivered, call_delivered_effects, ReplyDelivered, reply_delivered_effects}
+use Rattle.rules.proofs.RangesFits.{CallFits, call_range_says}
+use Rattle.rules.proofs.EffectsLaws.{OnlyObject}
+use Rattle.rules.proofs.EffectsPlaces.{message_fits}
+use Rattle.rules.proofs.EffectsCalls.{Invoked, invoke_effects, CallDelivered, call_delivered_effects, ReplyDelivered, reply_delivered_effects}
 use Rattle.clearing.specs.declared.Way.{Way}
 use Rattle.clearing.specs.Question.{listed}
 use Rattle.clearing.specs.Clearing.{made, read_one, reads_up_to}

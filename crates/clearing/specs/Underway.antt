@@ -24,12 +24,12 @@ use Rattle.rules.specs.Parts.{is_free, is_running, is_empty, is_held_by}
 use Rattle.rules.specs.Machine.{seen_of, step_of}
 use Rattle.rules.specs.Record.{flat_of, is_step}
 use Rattle.rules.specs.StoredLaws.{Sized, Placed, sized_after_step}
-use Rattle.rules.specs.StoredObjects.{seen_object}
-use Rattle.rules.specs.RangesLaws.{seen_in_range}
-use Rattle.rules.specs.RangesFits.{ObjectFits, seen_says}
-use Rattle.rules.specs.RefusedLaws.{refused_leaves}
-use Rattle.rules.specs.EffectsLaws.{OnlyMessage, ClockMoves}
-use Rattle.rules.specs.EffectsPlaces.{in_range_after_accepted, InUse}
+use Rattle.rules.proofs.StoredObjects.{seen_object}
+use Rattle.rules.proofs.RangesLaws.{seen_in_range}
+use Rattle.rules.proofs.RangesFits.{ObjectFits, seen_says}
+use Rattle.rules.proofs.RefusedLaws.{refused_leaves}
+use Rattle.rules.proofs.EffectsLaws.{OnlyMessage, ClockMoves}
+use Rattle.rules.proofs.EffectsPlaces.{in_range_after_accepted, InUse}
 use Rattle.clearing.specs.declared.Way.{Way}
 use Rattle.clearing.specs.Question.{listed}
 use Rattle.clearing.specs.Clearing.{made, then_made, mail_in, width_in, there_and_back, reads_up_to}

@@ -9,9 +9,9 @@ use Rattle.rules.specs.declared.outcomes.Outcome.{Outcome}
 use Rattle.rules.specs.declared.looking.Places.{Places}
 use Rattle.rules.specs.declared.looking.Trip.{Trip}
 use Rattle.rules.specs.Ranges.{in_range}
-use Rattle.rules.specs.RangesLaws.{seen_in_range}
-use Rattle.rules.specs.RangesFits.{sane_seen}
-pub use Rattle.rules.specs.RangesKept.{turn_count_most}
+use Rattle.rules.proofs.RangesLaws.{seen_in_range}
+use Rattle.rules.proofs.RangesFits.{sane_seen}
+pub use Rattle.rules.proofs.RangesKept.{turn_count_most}
 use Rattle.rules.specs.Sane.{Sane}
 use Rattle.rules.specs.Loops.{one_if}
 use Rattle.rules.specs.LoopsLaws.{either}

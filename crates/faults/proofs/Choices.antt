@@ -9,7 +9,7 @@ use lib.ListN.{length, length-append}
 use Rattle.words.specs.Grammar.{edge_of, slot_at}
 use Rattle.words.specs.Say.{text_bytes, word_text}
 use Rattle.words.specs.Faults.{choices_up_to, choice_count, separator, choice_text, choices_text, nothing_text, expected_at}
-use Rattle.words.specs.TextLaws.{cond_length, letters_length}
+use Rattle.words.proofs.TextLaws.{cond_length, letters_length}
 
 pub separator_length : (before count : ℕ) → length (separator before count) ≤ 4
 separator_length before count =

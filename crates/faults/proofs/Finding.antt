@@ -16,7 +16,7 @@ use Rattle.words.specs.declared.scan.Mode.{Mode}
 use Rattle.words.specs.declared.scan.Scan.{Scan}
 use Rattle.buffer.specs.Text.{Puts, put_none, put_one, put_both}
 use Rattle.words.specs.Scan.{is_space, is_hash, end_of, scan_next, scan_all}
-use Rattle.words.specs.LineLaws.{past_none}
+use Rattle.words.proofs.LineLaws.{past_none}
 use Rattle.words.specs.Faults.{lines_past, up_to_newline, from_by, fault_from, no_word, shown_byte, shown_up_to}
 
 -- ---- one byte more of a text

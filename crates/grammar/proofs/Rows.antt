@@ -4,7 +4,7 @@ use native.Mathlib.Omega.{arith}
 use mathlib.Core.Path.{◌≡◌, refl}
 use mathlib.Core.List.{List, [], ◌∷◌, map}
 use lib.ListN.{length, get_or, get_or-map}
-use Rattle.rules.specs.RecordLaws.{each_row_at}
+use Rattle.rules.proofs.RecordLaws.{each_row_at}
 use Rattle.words.specs.declared.rows.Edge.{Edge}
 use Rattle.words.specs.declared.rows.Slot.{Slot}
 use Rattle.words.specs.Grammar.{edge, edges, edge_of, takes, none, slots, slot_at}

@@ -3,7 +3,7 @@
 use Rattle.std.specs.Prelude.{ℕ, ◌≡◌, refl, List}
 use Rattle.rules.specs.declared.steps.Reading.{Reading}
 use Rattle.rules.specs.Record.{step_of_record, record_of_step}
-use Rattle.rules.specs.RecordLaws.{Bytes16, read_writes}
+use Rattle.rules.proofs.RecordLaws.{Bytes16, read_writes}
 
 -- a known step writes as these bytes; where there is no step, nothing is said
 abbrev pub WritesAs : List ℕ → Reading → Type 0

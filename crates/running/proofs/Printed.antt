@@ -11,7 +11,7 @@ use Rattle.rules.specs.declared.steps.Reading.{Reading}
 use Rattle.rules.specs.declared.outcomes.Answer.{Answer}
 use Rattle.rules.specs.declared.outcomes.Outcome.{Outcome}
 use Rattle.rules.specs.Ranges.{in_range}
-use Rattle.rules.specs.RangesKept.{start_in_range, in_range_after_record}
+use Rattle.rules.proofs.RangesKept.{start_in_range, in_range_after_record}
 use Rattle.rules.specs.Record.{step_of_record, reading_of, record_in_range_of, step_record_of}
 use Rattle.rules.specs.Sheet.{record_at}
 use Rattle.rules.specs.Answers.{answer_number, answer_value}

@@ -2,9 +2,6 @@
 pub mod Types
 pub mod Walk
 pub mod Times
-pub mod Kept
-pub mod Fits
-pub mod Holders
 pub mod Orphans
 pub mod Promises
 pub mod Events

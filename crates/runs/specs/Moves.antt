@@ -1,4 +1,2 @@
 -- How a store moves the passage that it is for: by kinds, read off every step, and what the kinds have in common.
 pub mod Definitions
-pub mod Steps
-pub mod Laws

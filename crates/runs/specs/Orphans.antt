@@ -2,21 +2,4 @@
 -- then that an orphan's figures are undone.
 pub mod Orphans
 pub mod Watch
-pub mod WatchKept
-pub mod WatchMailKept
-pub mod WatchPassageKept
-pub mod WatchVisitKept
-pub mod WatchStore
-pub mod WatchStations
-pub mod WatchLife
-pub mod WatchRounds
-pub mod WatchCalls
-pub mod WatchSteps
-pub mod Swept
-pub mod OrphansGone
-pub mod DemandThree
-pub mod Cleared
 pub mod Widths
-pub mod Rests
-pub mod RestSteps
-pub mod Undone

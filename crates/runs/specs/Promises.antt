@@ -1,6 +1,2 @@
 -- What people with a handle or a station's promise rely on.
 pub mod Definitions
-pub mod Handles
-pub mod Promised
-pub mod HeldFast
-pub mod Standing

@@ -8,7 +8,7 @@ use lib.ListN.{length, get_or, take}
 use lib.Seq.{take-suc}
 use Rattle.words.specs.declared.tokens.Piece.{Piece}
 use Rattle.words.specs.Say.{piece_token, token_text, rest_text, hex_text}
-use Rattle.words.specs.TextLaws.{token_length, rest_more, hex_more}
+use Rattle.words.proofs.TextLaws.{token_length, rest_more, hex_more}
 use Rattle.buffer.specs.Text.{Puts, put_both}
 
 tokens_more : (ps : List Piece) (p : Piece) → map piece_token (ps ++ (p ∷ [])) ≡ map piece_token ps ++ (piece_token p ∷ [])

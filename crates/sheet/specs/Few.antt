@@ -3,7 +3,7 @@ use Rattle.std.specs.Prelude.{ℕ, ◌/◌, ◌≤◌, ◌≡◌, List, length}
 use Rattle.std.proofs.Common.{arith}
 use Rattle.rules.specs.declared.steps.SheetAnswer.{SheetAnswer}
 use Rattle.rules.specs.Sheet.{sheet_answer, sheet_records, distance_of}
-use Rattle.rules.specs.SheetLaws.{Whole, taken_whole, taken_length}
+use Rattle.rules.proofs.SheetLaws.{Whole, taken_whole, taken_length}
 
 pub taken_few : (b : List ℕ) → sheet_answer b ≡ SheetAnswer.Taken → length (sheet_records b) / 16 ≤ 4095
 taken_few b e =

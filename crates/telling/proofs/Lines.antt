@@ -6,7 +6,7 @@ use mathlib.Core.Path.{◌≡◌, sym, ap, ◌∙◌}
 use mathlib.Core.List.{List, [], ◌∷◌, ◌++◌}
 use lib.ListN.{length}
 use Rattle.rules.specs.Answers.{answer_number, answer_value}
-use Rattle.rules.specs.RecordLaws.{Bytes16}
+use Rattle.rules.proofs.RecordLaws.{Bytes16}
 use Rattle.rules.specs.Sheet.{record_at}
 use Rattle.buffer.specs.Text.{Puts, put_both}
 use Rattle.words.specs.Say.{record_text}

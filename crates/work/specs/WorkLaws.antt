@@ -24,7 +24,7 @@ use Rattle.rules.specs.Ranges.{in_range}
 use Rattle.rules.specs.Sane.{Sane}
 use Rattle.rules.specs.Answers.{is_accepted}
 use Rattle.rules.specs.StoredLaws.{Placed, stored_seen}
-use Rattle.rules.specs.RefusedLaws.{turns_keep}
+use Rattle.rules.proofs.RefusedLaws.{turns_keep}
 use Rattle.rules.specs.Machine.{lowest_empty, mail_place, slot_place, site_place, bank_place, places_for, places_of, slot_seen, seen_of, is_message_of, remains, look_of, decide_of, stored_slot, head_of, trip_places, turn_seen, turn_answer, turn_of, turns_up_to, turn_count, step_in_range_of}
 use Rattle.rules.specs.Record.{reading_of}
 use Rattle.decisions.specs.Turns.{trip_value}

@@ -4,7 +4,7 @@
 use native.Mathlib.Omega.{arith}
 use native.Mathlib.Nat.{mod-lt}
 use lib.ListN.{length}
-use Rattle.rules.specs.ListingLaws.{spelt_length}
+use Rattle.rules.proofs.ListingLaws.{spelt_length}
 use Rattle.buffer.specs.Text.{put_none, put_both}
 use Rattle.buffer.proofs.Spelt.{spelt_none, spelt_one, spelt_more}
 use borrow.Author.Rules.{rules}

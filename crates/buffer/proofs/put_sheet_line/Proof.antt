@@ -3,7 +3,7 @@
 use native.Mathlib.Omega.{arith}
 use Prim.Native.Nat.{◌≤◌}
 use lib.ListN.{length}
-use Rattle.rules.specs.ListingLaws.{digits_length}
+use Rattle.rules.proofs.ListingLaws.{digits_length}
 use Rattle.buffer.specs.Text.{put_both}
 use borrow.Author.Rules.{rules}
 use Rattle.buffer.proofs.put_sheet_line.Statement.{statement}

@@ -4,7 +4,7 @@ use mathlib.Core.Path.{◌≡◌}
 use mathlib.Core.Bool.{true, false}
 use native.Mathlib.Omega.{arith}
 use Rattle.buffer.specs.Text.{put_none}
-use Rattle.words.specs.ReadLaws.{next_count, gives_room}
+use Rattle.words.proofs.ReadLaws.{next_count, gives_room}
 use Rattle.words.specs.Scan.{gives_record, given}
 use borrow.Author.Rules.{rules}
 use Rattle.reading.proofs.put_given.Statement.{statement}

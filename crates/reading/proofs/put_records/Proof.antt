@@ -1,6 +1,6 @@
 -- `reading::put_records` meets its contract. The loop carries the records of the bytes so far, and each turn puts what its byte gives. Assumes nothing.
 use Rattle.buffer.specs.Text.{Puts, put_none, put_both}
-use Rattle.words.specs.ReadLaws.{count_most, reader_more, records_more, records_whole}
+use Rattle.words.proofs.ReadLaws.{count_most, reader_more, records_more, records_whole}
 use Rattle.words.specs.Scan.{unread, given, read_all, text_read}
 use lib.Seq.{take-length}
 use lib.ListN.{length, get_or, take}

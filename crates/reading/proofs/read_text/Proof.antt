@@ -1,5 +1,5 @@
 -- `reading::read_text` meets its contract. The loop carries the reader after the bytes so far, and each turn reads one more. Assumes nothing.
-use Rattle.words.specs.ReadLaws.{reader_more, reader_whole}
+use Rattle.words.proofs.ReadLaws.{reader_more, reader_whole}
 use Rattle.words.specs.Scan.{unread, read_all}
 use lib.Seq.{take-length}
 use lib.ListN.{length, take}

@@ -6,7 +6,7 @@ use lib.ListN.{get_or}
 use mir.Syntax.{w8}
 use mir.Val.{Fits}
 use Rattle.rules.specs.Record.{step_of_record}
-use Rattle.rules.specs.RecordLaws.{Bytes16}
+use Rattle.rules.proofs.RecordLaws.{Bytes16}
 use Rattle.records.specs.RoundTrip.{reading_writes}
 use Rattle.records.proofs.read_record.Statement.{statement}
 use Rattle.records.proofs.read_record.Tie as tie

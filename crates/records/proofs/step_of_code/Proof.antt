@@ -1,7 +1,7 @@
 -- `records::step_of_code` meets its contract: each arm by its number, the last by being none of the first fifteen.
 -- Assumes nothing.
 use borrow.Author.Rules.{rules}
-use Rattle.rules.specs.RecordLaws.{last_left}
+use Rattle.rules.proofs.RecordLaws.{last_left}
 use Rattle.records.proofs.step_of_code.Statement.{statement}
 use Rattle.records.proofs.step_of_code.Tie as tie
 

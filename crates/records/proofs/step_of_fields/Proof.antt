@@ -2,7 +2,7 @@
 -- Assumes nothing.
 use borrow.Author.Rules.{rules}
 use Rattle.rules.specs.Record.{step_of_fields}
-use Rattle.rules.specs.RecordLaws.{code_known}
+use Rattle.rules.proofs.RecordLaws.{code_known}
 use Rattle.records.proofs.step_of_fields.Statement.{statement}
 use Rattle.records.proofs.step_of_fields.Tie as tie
 

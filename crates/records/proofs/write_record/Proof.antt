@@ -3,7 +3,7 @@
 use borrow.Author.Rules.{rules}
 use native.Mathlib.Omega.{arith}
 use mathlib.Core.Path.{◌≡◌}
-use Rattle.rules.specs.RecordLaws.{Widths, StepFits, flat_code, written_reads}
+use Rattle.rules.proofs.RecordLaws.{Widths, StepFits, flat_code, written_reads}
 use Rattle.rules.specs.Record.{record_of_step}
 use Rattle.records.proofs.write_record.Statement.{statement}
 use Rattle.records.proofs.write_record.Tie as tie

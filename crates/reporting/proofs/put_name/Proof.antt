@@ -1,7 +1,7 @@
 use native.Mathlib.Omega.{arith}
 use borrow.Author.Tests.{eq-eqb, ne_eqb}
 use lib.ListN.{length}
-use Rattle.rules.specs.ListingLaws.{digits_length}
+use Rattle.rules.proofs.ListingLaws.{digits_length}
 use Rattle.reporting.specs.Lengths.{line_short}
 use borrow.Author.Rules.{rules}
 use Rattle.reporting.proofs.put_name.Statement.{statement}

@@ -1,7 +1,7 @@
 use Prim.Native.Nat.{◌≤◌, zero-le}
 use native.Mathlib.Omega.{arith}
 use lib.ListN.{length}
-use Rattle.rules.specs.ListingLaws.{digits_length}
+use Rattle.rules.proofs.ListingLaws.{digits_length}
 use Rattle.buffer.specs.Text.{put_both}
 use Rattle.reporting.specs.Report.{own_told}
 use borrow.Author.Rules.{rules}

@@ -1,7 +1,7 @@
 use Prim.Native.Nat.{◌≤◌}
 use native.Mathlib.Omega.{arith}
 use lib.ListN.{length}
-use Rattle.words.specs.TextLaws.{step_length}
+use Rattle.words.proofs.TextLaws.{step_length}
 use Rattle.buffer.specs.Text.{put_both}
 use Rattle.telling.specs.Lengths.{refused_length}
 use Rattle.reporting.specs.Report.{refused_step_told}

@@ -13,7 +13,7 @@ use Rattle.rules.specs.Parts.{is_empty}
 use Rattle.rules.specs.Tables.{message_at, visit_at}
 use Rattle.rules.specs.Machine.{lowest_empty, slot_place, is_message_of, remains, stored}
 use Rattle.rules.specs.Listing.{printed_up_to}
-use Rattle.rules.specs.ListingLaws.{printed_is_run}
+use Rattle.rules.proofs.ListingLaws.{printed_is_run}
 use Rattle.decisions.specs.TurnsLaws.{turn_count_most}
 use Rattle.work.specs.Work.{reading_look, scan_count, turn_message, turn_stored}
 use Rattle.work.specs.WorkLaws.{places_by, scan_most, Working, Turned, working_starts, working_counts, working_most, working_sane, working_next, working_done, rest_found}

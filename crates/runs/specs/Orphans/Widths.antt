@@ -8,7 +8,7 @@ use Rattle.rules.specs.Record.{is_step}
 use Rattle.rules.specs.Runs.{run_of}
 use Rattle.runs.specs.Types.{Tables, Step, Seen}
 use Rattle.runs.specs.Walk.Says.{is_prepare, carries_commit}
-use Rattle.runs.specs.Walk.Steps.{seen_at}
+use Rattle.runs.specs.Walk.Seen.{seen_at}
 
 -- ---- the width at rest
 

@@ -8,7 +8,7 @@ use denote.Enum.Declared.{tag_of}
 use types.Run.{OneOf, miss}
 use Rattle.rules.specs.declared.steps.SheetAnswer.{SheetAnswer}
 use Rattle.rules.specs.contracts.steps.SheetAnswer.{the_type}
-use Rattle.rules.specs.SheetLaws.{taken_whole, taken_records}
+use Rattle.rules.proofs.SheetLaws.{taken_whole, taken_records}
 use Rattle.rules.specs.Sheet.{record_part, sheet_records}
 use Rattle.sheet.proofs.sheet_records.Statement.{statement}
 use Rattle.sheet.proofs.sheet_records.Tie as tie

@@ -1,8 +1,8 @@
 -- `telling::put_plain` meets its contract. The loop carries the lines put so far, and each turn puts the words of one record more. Assumes nothing.
-use Rattle.rules.specs.RecordLaws.{Bytes16}
+use Rattle.rules.proofs.RecordLaws.{Bytes16}
 use Rattle.rules.specs.Sheet.{record_at}
 use Rattle.words.specs.Tell.{plain_up_to}
-use Rattle.words.specs.TextLaws.{record_length}
+use Rattle.words.proofs.TextLaws.{record_length}
 use Rattle.telling.specs.Lengths.{record_bytes}
 use Rattle.telling.proofs.Lines.{plain_put}
 use Rattle.buffer.specs.Text.{Puts, put_none}

@@ -1,4 +1,4 @@
-use Rattle.rules.specs.ListingLaws.{digits_length}
+use Rattle.rules.proofs.ListingLaws.{digits_length}
 use Rattle.buffer.specs.Text.{put_both}
 use lib.ListN.{length, length-append}
 use Rattle.telling.specs.Lengths.{refused_length}

@@ -1,5 +1,5 @@
 use Rattle.telling.specs.Lengths.{sheet_phrase_length}
-use Rattle.rules.specs.ListingLaws.{digits_length}
+use Rattle.rules.proofs.ListingLaws.{digits_length}
 use Rattle.buffer.specs.Text.{put_both}
 use lib.ListN.{length}
 use Prim.Native.Nat.{◌≤◌, zero-le}

@@ -1,5 +1,5 @@
 -- `telling::put_told` meets its contract. The loop carries the lines put so far, and each turn puts one record's line more. Assumes nothing.
-use Rattle.rules.specs.RecordLaws.{Bytes16}
+use Rattle.rules.proofs.RecordLaws.{Bytes16}
 use Rattle.rules.specs.Sheet.{record_at}
 use Rattle.words.specs.Tell.{told_up_to}
 use Rattle.telling.specs.Lengths.{record_bytes, record_short}

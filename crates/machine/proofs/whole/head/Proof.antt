@@ -1,4 +1,4 @@
-use Rattle.rules.specs.RangesLaws.{placed_places}
+use Rattle.rules.proofs.RangesLaws.{placed_places}
 use Rattle.rules.specs.Machine.{places_of}
 use Rattle.decisions.specs.TurnsLaws.{sane_at}
 use borrow.Author.Rules.{rules}

@@ -1,4 +1,4 @@
-use Rattle.rules.specs.RangesLaws.{placed_trip}
+use Rattle.rules.proofs.RangesLaws.{placed_trip}
 use Rattle.rules.specs.Machine.{turn_of}
 use borrow.Author.Rules.{rules}
 use Rattle.machine.proofs.whole.turn.Statement.{statement}

@@ -1,7 +1,7 @@
 -- `saying::line::put_bytes` meets its contract. The loop carries the bytes put so far, and each turn puts one more. Assumes nothing.
 use Rattle.words.specs.Say.{hex_text}
 use Rattle.saying.proofs.Pieces.{bytes_more}
-use Rattle.words.specs.TextLaws.{hex_length}
+use Rattle.words.proofs.TextLaws.{hex_length}
 use borrow.Author.Rules.{rules}
 use Rattle.buffer.specs.Text.{Puts, put_none, put_both}
 use lib.Seq.{take_all}

@@ -1,5 +1,5 @@
 use Rattle.words.specs.Say.{step_text}
-use Rattle.words.specs.TextLaws.{letters_length}
+use Rattle.words.proofs.TextLaws.{letters_length}
 use Rattle.buffer.specs.Text.{put_both}
 use lib.ListN.{length}
 use Prim.Native.Nat.{◌≤◌}

@@ -1,0 +1,3 @@
+-- How a store moves the passage that it is for: by kinds, read off every step, and what the kinds have in common.
+pub mod Steps
+pub mod Laws

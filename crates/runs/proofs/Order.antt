@@ -1,0 +1,8 @@
+-- Operations come before lettings go, by their stamps, in whichever order the steps came; so nobody reads on both sides of another's change.
+pub mod Gone
+pub mod Marked
+pub mod SweptLedger
+pub mod Listed
+pub mod Before
+pub mod Stamps
+pub mod Sides

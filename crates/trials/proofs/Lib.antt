@@ -1,0 +1,2 @@
+-- What holds of the second table of cases.
+pub mod Trials
