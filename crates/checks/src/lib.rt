@@ -22,6 +22,7 @@ pub fn refuse(gives: Refusal, holds: bool) -> Check
 }
 
 // Of two checks the first that holds: what was tried so far, or else the next one.
+#[tactic(auto, unfolding(crate::specs::Order::or_else))]
 pub fn or_else(tried: Check, next: Check) -> Check
     ensures { result ≡ or_else tried next }
 {
@@ -29,6 +30,7 @@ pub fn or_else(tried: Check, next: Check) -> Check
 }
 
 // A step is settled by what was tried: refused it keeps what was seen, accepted it answers this value and leaves these records.
+#[tactic(auto, unfolding(crate::specs::Order::settled_by))]
 pub fn settle(tried: Check, value: u64, left: Seen, seen: Seen) -> Decision
     ensures { result ≡ settled_by tried value left seen }
 {

@@ -36,6 +36,7 @@ fn object_in_range(o: Object) -> bool
     (o.value <= WIDTH_MOST) & (o.before <= WIDTH_MOST) & holder_in_range(o)
 }
 
+#[tactic(auto, unfolding(rules::specs::Loops::every_up_to, rules::specs::Ranges::counts_in_range))]
 fn counts_in_range(sent: [u16; 8]) -> bool
     ensures { result ≡ counts_in_range sent }
 {
@@ -91,6 +92,7 @@ fn phase_fits(k: Kind, p: Phase) -> bool
     }
 }
 
+#[tactic(auto, unfolding(rules::specs::Loops::every_up_to))]
 fn all_figures_in_range(figures: [Figures; 8]) -> bool
     ensures { result ≡ every_up_to (λ s. figures_in_range (get_or figures s past_figures)) 8 }
 {
@@ -193,6 +195,7 @@ fn message_in_range(m: Message) -> bool
         & body_in_range(body)
 }
 
+#[tactic(auto, unfolding(rules::specs::Loops::every_up_to))]
 fn sites_in_range(sites: [Site; 8]) -> bool
     ensures { result ≡ every_up_to (λ i. site_in_range (get_or sites i past_site)) 8 }
 {
@@ -205,6 +208,7 @@ fn sites_in_range(sites: [Site; 8]) -> bool
     ok
 }
 
+#[tactic(auto, unfolding(rules::specs::Loops::every_up_to))]
 fn objects_in_range(objects: [Object; 32]) -> bool
     ensures { result ≡ every_up_to (λ i. object_in_range (get_or objects i past_object)) 32 }
 {
@@ -217,6 +221,7 @@ fn objects_in_range(objects: [Object; 32]) -> bool
     ok
 }
 
+#[tactic(auto, unfolding(rules::specs::Loops::every_up_to))]
 fn passages_in_range(passages: [Passage; 16]) -> bool
     ensures { result ≡ every_up_to (λ i. passage_in_range (get_or passages i past_passage)) 16 }
 {
@@ -229,6 +234,7 @@ fn passages_in_range(passages: [Passage; 16]) -> bool
     ok
 }
 
+#[tactic(auto, unfolding(rules::specs::Loops::every_up_to))]
 fn visits_in_range(visits: [Visit; 128]) -> bool
     ensures { result ≡ every_up_to (λ i. visit_in_range (get_or visits i past_visit)) 128 }
 {
@@ -241,6 +247,7 @@ fn visits_in_range(visits: [Visit; 128]) -> bool
     ok
 }
 
+#[tactic(auto, unfolding(rules::specs::Loops::every_up_to))]
 fn messages_in_range(messages: [Message; 32]) -> bool
     ensures { result ≡ every_up_to (λ i. message_in_range (get_or messages i past_message)) 32 }
 {
@@ -254,6 +261,7 @@ fn messages_in_range(messages: [Message; 32]) -> bool
 }
 
 // The test for number 20.
+#[tactic(auto, unfolding(rules::specs::Ranges::in_range))]
 pub fn in_range(t: Tables) -> bool
     ensures { result ≡ in_range t }
 {

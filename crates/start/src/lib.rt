@@ -10,6 +10,7 @@ use parts::passage::free_slot;
 use parts::visit::no_visit;
 use rules::tables::{Site, Tables};
 
+#[tactic(auto, unfolding(rules::specs::Tables::start))]
 pub fn start() -> Tables
     ensures { result ≡ start }
 {

@@ -1,0 +1,14 @@
+use Rattle.rules.specs.Calls.{deliver_phase_one_of}
+use Rattle.checks.specs.OrderLaws.{settled_first}
+use Rattle.phases.proofs.deliver_phase_one.Goals as goal
+
+pub returns : goal.returns
+unfolding deliver_phase_one_of
+returns c =
+    rw (
+      c.settle.ensures,
+      c.asked_at-left.ensures,
+      c.round_tried-tried.ensures,
+      c.asks_life.ensures,
+      c.mail_clock-clock.ensures,
+    ) (settled_first _ _ _ _ _)
