@@ -18,6 +18,7 @@ use rules::steps::Step;
 use stations::{sweep, tick};
 
 // The decision, from what looking found and saw.
+#[tactic(auto, unfolding(rules::specs::Machine::decide_of))]
 pub fn decide(step: Step, found: Found, seen: Seen) -> Decision
     requires { Sane seen }
     ensures { result ≡ decide_of step found seen }

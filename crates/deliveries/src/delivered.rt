@@ -77,6 +77,7 @@ fn deliver_answer(m: u8, number: u16, received: u16, quiesce: u32, seen: Seen) -
 }
 
 // 11. deliver, by what the message slot holds.
+#[tactic(auto, unfolding(rules::specs::Calls::deliver_body_of))]
 pub fn deliver(m: u8, seen: Seen) -> Decision
     requires { Sane seen }
     ensures { result ≡ deliver_of m seen }
