@@ -1,4 +1,4 @@
--- The loop carries the row found up to the index, and each turn adds one more.
+-- The loop carries the row found up to the index, and each turn adds one more. Assumes nothing.
 use Rattle.std.proofs.Common.{◌≡◌, ◌≤◌, ◌-◌}
 use Rattle.rules.specs.Loops.{first_up_to}
 use Rattle.words.specs.Grammar.{leads_from}

@@ -1,4 +1,4 @@
--- The columns make the row.
+-- The columns make the row. Assumes nothing.
 use Rattle.grammar.proofs.Rows.{edge_made}
 use Rattle.grammar.proofs.edge_of.Goals as goal
 

@@ -1,4 +1,4 @@
--- The columns make the row; past the last place there is none.
+-- The columns make the row; past the last place there is none. Assumes nothing.
 use Rattle.std.proofs.Common.{rules}
 use Rattle.grammar.proofs.Rows.{slot_made, slot_within, slot_past}
 use Rattle.grammar.proofs.slot_at.Goals as goal

@@ -1,5 +1,5 @@
--- The reader is the definition, and in code sixteen bytes are lent: so the law of the round trip says what a known step writes as.
-use Rattle.std.proofs.Common.{◌≡◌, ℕ, length, get_or, rules, w8, Fits}
+-- The reader is the definition, and in code sixteen bytes are lent: so the law of the round trip says what a known step writes as. Assumes nothing.
+use Rattle.std.proofs.Common.{◌≡◌, get_or, rules, w8, Fits}
 use Rattle.rules.specs.Record.{step_of_record}
 use Rattle.rules.proofs.RecordLaws.{Bytes16}
 use Rattle.records.specs.RoundTrip.{reading_writes}

@@ -1,4 +1,4 @@
--- By the two tests.
+-- By the two tests. Assumes nothing.
 use Rattle.rules.specs.Record.{step_of_fields}
 use Rattle.records.proofs.step_of_fields.Goals as goal
 

@@ -1,4 +1,4 @@
--- The writer is the definition, and in code a step's fields have the widths of the record: so the law of the round trip says what the bytes read as.
+-- The writer is the definition, and in code a step's fields have the widths of the record: so the law of the round trip says what the bytes read as. Assumes nothing.
 use Rattle.std.proofs.Common.{◌≡◌, arith}
 use Rattle.rules.specs.Record.{record_of_step}
 use Rattle.rules.proofs.RecordLaws.{Widths, StepFits, written_reads}
