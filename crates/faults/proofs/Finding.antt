@@ -1,16 +1,9 @@
 -- A line of a text, byte by byte: where it starts, where it ends, where in it the fault fell, and the bytes of it that are shown. Assumes nothing.
-use Prim.Native.Nat.{ℕ, zero, suc, ◌+◌, ◌-◌, ◌≤◌, ◌<◌}
-use native.Mathlib.Omega.{arith}
-use native.Mathlib.Nat.{add_assoc, add-zero}
-use native.Mathlib.Numerals.{add-one}
-use mathlib.Core.Path.{◌≡◌, refl, sym, ap, ◌∙◌}
-use mathlib.Core.Logic.{⊎_elim}
-use mathlib.Core.Bool.{true, false, cond, ◌||◌, true≢false}
-use mathlib.Core.List.{List, [], ◌∷◌, ◌++◌, append-nil, append_assoc}
-use borrow.Author.Tests.{ltb-true, ltb-false}
-use lib.Dec.{ltb, eqb}
-use lib.ListN.{length, get_or, take, drop, set, length-drop, take-append-drop, drop_of_length-le}
-use lib.Seq.{drop-cons, drop-length, take-suc, get_or-drop}
+use Rattle.std.specs.Prelude.{ℕ, zero, suc, ◌+◌, ◌-◌, ◌≤◌, ◌<◌, ◌≡◌, refl, true, false, cond, ◌||◌, List, [], ◌∷◌, ◌++◌, ltb, eqb, length, get_or, take, drop, set}
+use Rattle.std.proofs.Common.{arith, sym, ap, ◌∙◌, ⊎_elim, add_assoc, add-zero, add-one, append-nil, append_assoc, ltb-true, ltb-false, length-drop, take-append-drop, drop-cons}
+use Rattle.std.proofs.lemmas.Bool.{true≢false}
+use Rattle.std.proofs.Math.ListN.{drop_of_length-le}
+use Rattle.std.proofs.Math.Seq.{drop-length, take-suc, get_or-drop}
 use Rattle.rules.specs.LoopsLaws.{either}
 use Rattle.words.specs.declared.scan.Mode.{Mode}
 use Rattle.words.specs.declared.scan.Scan.{Scan}
