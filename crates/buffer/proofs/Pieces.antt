@@ -1,11 +1,6 @@
 -- A part of a text that has been put, and one byte more of it. Assumes nothing.
-use Prim.Native.Nat.{ℕ, ◌+◌, ◌≤◌, ◌<◌}
-use native.Mathlib.Omega.{arith}
-use native.Mathlib.Numerals.{add-one}
-use mathlib.Core.Path.{◌≡◌}
-use mathlib.Core.List.{List}
-use lib.ListN.{length, get_or, take, set}
-use lib.Seq.{take-suc}
+use Rattle.std.proofs.Common.{ℕ, ◌+◌, ◌≤◌, ◌<◌, ◌≡◌, List, length, get_or, take, set, arith, add-one}
+use Rattle.std.proofs.Math.Seq.{take-suc}
 use Rattle.buffer.specs.Text.{Puts, put_both, put_one}
 
 pub one_byte_more :

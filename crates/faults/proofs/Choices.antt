@@ -1,11 +1,6 @@
 -- The words that lead on from a place: how long they are, and where they are what is expected. Assumes nothing.
-use Prim.Native.Nat.{ℕ, ◌+◌, ◌≤◌}
-use native.Mathlib.Omega.{arith}
-use mathlib.Core.Path.{◌≡◌}
-use mathlib.Core.Bool.{true, false}
-use mathlib.Core.List.{[], ◌++◌}
-use lib.Dec.{eqb}
-use lib.ListN.{length, length-append}
+use Rattle.std.specs.Prelude.{ℕ, ◌+◌, ◌≤◌, ◌≡◌, true, false, [], ◌++◌, eqb, length}
+use Rattle.std.proofs.Common.{arith, length-append}
 use Rattle.words.specs.Grammar.{edge_of, slot_at}
 use Rattle.words.specs.Say.{text_bytes, word_text}
 use Rattle.words.specs.Faults.{choices_up_to, choice_count, separator, choice_text, choices_text, nothing_text, expected_at}

@@ -1,21 +1,14 @@
 -- A line of a text, byte by byte: where it starts, where it ends, where in it the fault fell, and the bytes of it that are shown. Assumes nothing.
-use Prim.Native.Nat.{ℕ, zero, suc, ◌+◌, ◌-◌, ◌≤◌, ◌<◌}
-use native.Mathlib.Omega.{arith}
-use native.Mathlib.Nat.{add_assoc, add-zero}
-use native.Mathlib.Numerals.{add-one}
-use mathlib.Core.Path.{◌≡◌, refl, sym, ap, ◌∙◌}
-use mathlib.Core.Logic.{⊎_elim}
-use mathlib.Core.Bool.{true, false, cond, ◌||◌, true≢false}
-use mathlib.Core.List.{List, [], ◌∷◌, ◌++◌, append-nil, append_assoc}
-use borrow.Author.Tests.{ltb-true, ltb-false}
-use lib.Dec.{ltb, eqb}
-use lib.ListN.{length, get_or, take, drop, set, length-drop, take-append-drop, drop_of_length-le}
-use lib.Seq.{drop-cons, drop-length, take-suc, get_or-drop}
+use Rattle.std.specs.Prelude.{ℕ, zero, suc, ◌+◌, ◌-◌, ◌≤◌, ◌<◌, ◌≡◌, refl, true, false, cond, List, [], ◌∷◌, ◌++◌, ltb, eqb, length, get_or, take, drop, set}
+use Rattle.std.proofs.Common.{arith, sym, ap, ◌∙◌, ⊎_elim, add_assoc, add-one, append-nil, append_assoc, ltb-true, ltb-false, length-drop, take-append-drop, drop-cons}
+use Rattle.std.proofs.lemmas.Bool.{true≢false}
+use Rattle.std.proofs.Math.ListN.{drop_of_length-le}
+use Rattle.std.proofs.Math.Seq.{drop-length, take-suc, get_or-drop}
 use Rattle.rules.specs.LoopsLaws.{either}
 use Rattle.words.specs.declared.scan.Mode.{Mode}
 use Rattle.words.specs.declared.scan.Scan.{Scan}
-use Rattle.buffer.specs.Text.{Puts, put_none, put_one, put_both}
-use Rattle.words.specs.Scan.{is_space, is_hash, end_of, scan_next, scan_all}
+use Rattle.buffer.specs.Text.{Puts, put_one, put_both}
+use Rattle.words.specs.Scan.{end_of, scan_next, scan_all}
 use Rattle.words.proofs.LineLaws.{past_none}
 use Rattle.words.specs.Faults.{lines_past, up_to_newline, from_by, fault_from, no_word, shown_byte, shown_up_to}
 
@@ -115,9 +108,6 @@ scan_end line i s h = rw (drop_of_length-le line h)
 
 -- ---- what stood there
 
-pub word_found_here : (line : List ℕ) (from : ℕ) → from < length line → no_word (drop from line) ≡ (is_space (get_or line from 0) || is_hash (get_or line from 0))
-word_found_here line from h = rw (opened_line line from h)
-
 pub no_word_past : (line : List ℕ) (from : ℕ) → length line ≤ from → no_word (drop from line) ≡ true
 no_word_past line from h = rw (drop_of_length-le line h)
 
@@ -141,12 +131,6 @@ split_more (y ∷ all) (suc k) x rest e = (ap (λ (l : List ℕ). y ∷ l) (spli
 pub record Shows (before : List ℕ) (at : ℕ) (line : List ℕ) (from k : ℕ) (after : List ℕ) : Type 0 where
   pub puts : Puts before at (take k (shown_up_to 20 (drop from line))) after (at + k)
   pub left : drop k (shown_up_to 20 (drop from line)) ≡ shown_up_to (20 - k) (drop (from + k) line)
-
-pub shows_none : (buf : List ℕ) (at : ℕ) (line : List ℕ) (from : ℕ) → Shows buf at line from 0 buf
-shows_none buf at line from = record {
-  puts = rw (add-zero at) (put_none buf at);
-  left = rw (add-zero from);
-}
 
 pub shows_more :
     (buf mid : List ℕ) (at : ℕ) (line : List ℕ) (from k : ℕ) → k < 20 → at + 20 ≤ length buf → length mid ≡ length buf → no_word (drop (from + k) line) ≡ false

@@ -1,9 +1,7 @@
 -- The columns of the two tables make their rows. Assumes nothing.
-use Prim.Native.Nat.{ℕ, zero, suc, ◌≤◌, ◌<◌}
-use native.Mathlib.Omega.{arith}
-use mathlib.Core.Path.{◌≡◌, refl}
-use mathlib.Core.List.{List, [], ◌∷◌, map}
-use lib.ListN.{length, get_or, get_or-map}
+use Rattle.std.specs.Prelude.{ℕ, zero, suc, ◌≤◌, ◌<◌, ◌≡◌, List, [], ◌∷◌, map, length, get_or}
+use Rattle.std.proofs.Common.{refl, arith}
+use Rattle.std.proofs.Math.ListN.{get_or-map}
 use Rattle.rules.proofs.RecordLaws.{each_row_at}
 use Rattle.words.specs.declared.rows.Edge.{Edge}
 use Rattle.words.specs.declared.rows.Slot.{Slot}

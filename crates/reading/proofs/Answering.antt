@@ -1,11 +1,7 @@
 -- What passwrite answers by how reading stopped, and that a text of one or two bytes has no mark. Assumes nothing.
-use Prim.Native.Nat.{ℕ, ◌+◌, ◌<◌}
-use native.Mathlib.Omega.{arith}
-use mathlib.Core.Path.{◌≡◌, refl, sym, ap, ◌∙◌}
-use mathlib.Core.Bool.{Bool, true, false, ◌&&◌}
-use mathlib.Core.List.{List, ◌++◌}
-use lib.Dec.{eqb}
-use lib.ListN.{length, get_or, get_or-eq_default}
+use Rattle.std.specs.Prelude.{ℕ, ◌+◌, ◌<◌, ◌≡◌, refl, Bool, true, false, ◌&&◌, List, ◌++◌, eqb, length, get_or}
+use Rattle.std.proofs.Common.{arith, sym, ap, ◌∙◌}
+use Rattle.std.proofs.Math.ListN.{get_or-eq_default}
 use Rattle.words.specs.declared.scan.Fault.{Fault}
 use Rattle.words.specs.declared.scan.Stop.{Stop}
 use Rattle.words.specs.declared.scan.Reader.{Reader}

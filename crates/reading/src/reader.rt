@@ -100,6 +100,7 @@ fn going_next(r: Reader, b: u8) -> Reader
 }
 
 // One byte of a text more; after something wrong nothing changes.
+#[tactic(auto, unfolding(words::specs::Scan::reader_next))]
 pub(crate) fn reader_next(r: Reader, b: u8) -> Reader
     ensures { result ≡ reader_next r b }
 {
@@ -130,6 +131,7 @@ fn is_going(stop: Stop) -> bool
 }
 
 // Whether this byte ends a line that says a record, and there is room for it.
+#[tactic(auto, unfolding(words::specs::Scan::gives_record))]
 pub(crate) fn gives_record(r: Reader, b: u8) -> bool
     ensures { result ≡ gives_record r b }
 {

@@ -1,11 +1,7 @@
 -- One piece of a line more, and one byte in hex more. Assumes nothing.
-use Prim.Native.Nat.{ℕ, ◌+◌, ◌*◌, ◌≤◌, ◌<◌}
-use native.Mathlib.Omega.{arith}
-use native.Mathlib.Numerals.{add-one}
-use mathlib.Core.Path.{◌≡◌, refl}
-use mathlib.Core.List.{List, [], ◌∷◌, ◌++◌, map}
-use lib.ListN.{length, get_or, take}
-use lib.Seq.{take-suc}
+use Rattle.std.specs.Prelude.{ℕ, ◌+◌, ◌*◌, ◌≤◌, ◌<◌, ◌≡◌, List, [], ◌∷◌, ◌++◌, map, length, get_or, take}
+use Rattle.std.proofs.Common.{refl, add-one, arith}
+use Rattle.std.proofs.Math.Seq.{take-suc}
 use Rattle.words.specs.declared.tokens.Piece.{Piece}
 use Rattle.words.specs.Say.{piece_token, token_text, rest_text, hex_text}
 use Rattle.words.proofs.TextLaws.{token_length, rest_more, hex_more}

@@ -53,6 +53,7 @@ fn followed(s: Scan, e: Edge) -> Scan
 }
 
 // A word has ended.
+#[tactic(auto, unfolding(words::specs::Scan::word_taken))]
 fn word_taken(s: Scan) -> Scan
     ensures { result ≡ word_taken s }
 {
@@ -77,6 +78,7 @@ fn filled(s: Scan, f: Slot) -> Scan
 }
 
 // A number has ended.
+#[tactic(auto, unfolding(words::specs::Scan::number_taken))]
 fn number_taken(s: Scan) -> Scan
     ensures { result ≡ number_taken s }
 {
@@ -245,6 +247,7 @@ fn live_next(s: Scan, b: u8) -> Scan
 }
 
 // One byte of a line more.
+#[tactic(auto, unfolding(words::specs::Scan::scan_next))]
 pub fn scan_next(s: Scan, b: u8) -> Scan
     ensures { result ≡ scan_next s b }
 {

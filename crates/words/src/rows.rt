@@ -7,7 +7,7 @@ pub const EDGE_COUNT: usize = 31;
 pub const RAW_NODE: u8 = 30;
 
 // At place `from` the word leads to place `to`, and puts `value` into byte `field` of the record; a field of 16 is none.
-#[derive(Drop)]
+#[derive(Clone, Copy)]
 pub struct Edge {
     pub from: u8,
     pub word: u64,
@@ -17,7 +17,7 @@ pub struct Edge {
 }
 
 // A number goes into `width` bytes of the record from byte `field` on, and leads to place `to`; a width of 0 is none.
-#[derive(Drop)]
+#[derive(Clone, Copy)]
 pub struct Slot {
     pub field: u8,
     pub width: u8,

@@ -10,7 +10,7 @@ pub const RECORD_MOST: u32 = 4095;
 pub const LINES_MOST: u32 = 1000000;
 
 // What is wrong with a line. The number of each is its place here, from 1.
-#[derive(Drop)]
+#[derive(Clone, Copy)]
 pub enum Fault {
     UnknownWord,
     MissingField,
@@ -20,7 +20,7 @@ pub enum Fault {
 }
 
 // Where the reader stands in a line: between two words, in a word, in a number, in a comment, or past something wrong.
-#[derive(Drop)]
+#[derive(Clone, Copy)]
 pub enum Mode {
     Gap,
     Word,
@@ -30,7 +30,7 @@ pub enum Mode {
 }
 
 // A line under way: the word or number so far, the place in the grammar, the hex digits so far, and the record so far.
-#[derive(Drop)]
+#[derive(Clone, Copy)]
 pub struct Scan {
     pub mode: Mode,
     pub token: u64,
@@ -40,7 +40,7 @@ pub struct Scan {
 }
 
 // What a whole line says: nothing, a record, or something wrong.
-#[derive(Drop)]
+#[derive(Clone, Copy)]
 pub enum Verdict {
     Blank,
     Record,
@@ -48,14 +48,14 @@ pub enum Verdict {
 }
 
 // Whether reading goes on, or stopped at something wrong.
-#[derive(Drop)]
+#[derive(Clone, Copy)]
 pub enum Stop {
     Going,
     At(Fault),
 }
 
 // A text under way: the line under way and its bytes so far, the lines that have ended, and the records so far.
-#[derive(Drop)]
+#[derive(Clone, Copy)]
 pub struct Reader {
     pub stop: Stop,
     pub scan: Scan,
