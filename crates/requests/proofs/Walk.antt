@@ -42,9 +42,6 @@ module _ (name : List ℕ) (from : ℕ) (text : List ℕ) where
       let none = words_behind from text h in
       record { read = rw none (sym (same_empty name some)); next = rw none }
 
-  pub name_there : (to : ℕ) → WordEnds from text to → NamedAt name from text (record { read = same (take (to - from) (drop from text)) name; next = to + 1 })
-  name_there to w = record { read = rw w.words; next = rw w.words }
-
 -- ---- a name and its number
 
 module _ (name : List ℕ) (from : ℕ) (text : List ℕ) (n : Named) (named : NamedAt name from text n) where

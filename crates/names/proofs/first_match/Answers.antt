@@ -1,4 +1,4 @@
--- Assumes nothing.
+-- Each turn of the loop passes over one line that does not match. Assumes nothing.
 use Rattle.std.proofs.Common.{sym, ◌∙◌, arith}
 use Rattle.std.proofs.Math.Seq.{take-nil, drop-length}
 use Rattle.names.proofs.Lines.{match_here, match_later, match_none}

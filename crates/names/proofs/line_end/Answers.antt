@@ -1,4 +1,4 @@
--- Assumes nothing.
+-- A line ends at its newline, or where the list does. Assumes nothing.
 use Rattle.std.proofs.Common.{get_or, arith}
 use borrow.Author.Tests.{eq-eqb, ne_eqb}
 use Rattle.names.proofs.Lines.{line_begun, line_longer, line_ended_lem, line_last}

@@ -1,4 +1,4 @@
--- Assumes nothing.
+-- Each digit makes the number, and the first byte that is no digit says whether the line matches. Assumes nothing.
 use Rattle.std.proofs.Common.{sym, ◌∙◌, arith}
 use Rattle.names.proofs.Digits.{counted_more, matches_there, matches_nothing}
 use Rattle.names.proofs.matches_line.Goals as goal

@@ -1,4 +1,4 @@
--- Assumes nothing.
+-- Each turn of the loop stores one word's number, and a word that is no number ends it. Assumes nothing.
 use Rattle.std.proofs.Common.{◌+◌, ◌-◌, min, sym, ap, ◌∙◌, take, drop, arith}
 use borrow.Author.Tests.{lt-ltb, le-ltb}
 use Rattle.requests.proofs.Words.{words_behind}

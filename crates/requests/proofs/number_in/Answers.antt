@@ -1,4 +1,4 @@
--- Assumes nothing.
+-- Each digit makes the number, and any other byte makes it none. Assumes nothing.
 use Rattle.std.proofs.Common.{sym, ◌∙◌, arith}
 use Rattle.requests.proofs.Numbers.{counted_more, number_not, number_read, number_empty}
 use Rattle.requests.proofs.number_in.Goals as goal

@@ -1,4 +1,4 @@
--- Assumes nothing.
+-- Each turn of the loop passes over one byte that is the same, and what differs in length differs. Assumes nothing.
 use Rattle.std.proofs.Common.{sym, ◌∙◌, get_or, arith}
 use borrow.Author.Tests.{eq-eqb, ne_eqb}
 use Rattle.requests.proofs.Words.{same_more, same_not, same_all, same_length}

@@ -1,4 +1,4 @@
--- Assumes nothing.
+-- A word ends at the space behind it, or where the text does. Assumes nothing.
 use Rattle.std.proofs.Common.{get_or, arith}
 use borrow.Author.Tests.{eq-eqb, ne_eqb}
 use Rattle.requests.proofs.Words.{word_begun, word_longer, word_ended, word_last}
