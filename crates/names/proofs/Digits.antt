@@ -1,12 +1,7 @@
 -- The number that a line begins with, digit by digit, held at 256. Assumes nothing.
-use Prim.Native.Nat.{ℕ, ◌+◌, ◌-◌, ◌*◌, ◌≤◌, ◌<◌, min}
-use native.Mathlib.Omega.{arith}
-use mathlib.Core.Path.{◌≡◌, refl, sym, ap, ◌∙◌}
-use mathlib.Core.Bool.{Bool, true, false, ◌&&◌, and_false}
-use mathlib.Core.List.{List, [], ◌∷◌}
+use Rattle.std.proofs.Common.{ℕ, ◌+◌, ◌-◌, ◌*◌, ◌≤◌, ◌<◌, min, ◌≡◌, refl, sym, ap, ◌∙◌, Bool, true, false, ◌&&◌, List, [], ◌∷◌, leb, ltb, eqb, length, get_or, drop, drop_of_length-le, arith}
+use Rattle.std.proofs.Math.Bool.{and-false}
 use borrow.Author.Tests.{leb-true, ltb-true, ltb-false, ne_eqb}
-use lib.Dec.{leb, ltb, eqb}
-use lib.ListN.{length, get_or, drop, drop_of_length-le}
 use Rattle.names.proofs.Lines.{opened_line}
 use Rattle.names.specs.Names.{is_digit, digits_in, behind_digits, number_on, number_of, matches}
 
@@ -90,4 +85,4 @@ pub matches_nothing : (line : List ℕ) (i n object : ℕ) → length line ≤ i
 unfolding behind_digits matches
 matches_nothing line i n object h c =
     let none : behind_digits line ≡ [] = sym c.behind ∙ rw (drop_of_length-le line h) in
-    rw none (and_false (ltb 0 (length (digits_in line)) && eqb (number_of (digits_in line)) object))
+    rw none (and-false (ltb 0 (length (digits_in line)) && eqb (number_of (digits_in line)) object))

@@ -1,3 +1,4 @@
--- Laws that the proofs of names cite. Assumes nothing.
+-- What looking up an object hands back, and laws that the proofs of names cite. Assumes nothing.
+pub mod HandedBack
 mod Lines
 mod Digits

@@ -1,13 +1,6 @@
 -- The first line of what is left of a list, byte by byte: the bytes so far stand ahead of the lines that follow. Assumes nothing.
-use Prim.Native.Nat.{ℕ, suc, ◌+◌, ◌-◌, ◌≤◌, ◌<◌}
-use native.Mathlib.Omega.{arith}
-use native.Mathlib.Numerals.{add-one}
-use mathlib.Core.Path.{◌≡◌, refl, sym, ap, ◌∙◌}
-use mathlib.Core.Bool.{Bool, true, false, cond}
-use mathlib.Core.List.{List, [], ◌∷◌, ◌++◌, append-nil, append_assoc}
-use lib.Dec.{eqb}
-use lib.ListN.{length, get_or, take, drop, length-drop, drop_of_length-le}
-use lib.Seq.{drop-cons, take-suc, get_or-drop}
+use Rattle.std.proofs.Common.{ℕ, suc, ◌+◌, ◌-◌, ◌≤◌, ◌<◌, ◌≡◌, refl, sym, ap, ◌∙◌, Bool, true, false, cond, List, [], ◌∷◌, ◌++◌, append-nil, append_assoc, eqb, length, get_or, take, drop, length-drop, drop_of_length-le, add-one, arith}
+use Rattle.std.proofs.Math.Seq.{drop-cons, take-suc, get_or-drop}
 use Rattle.names.specs.Names.{ahead, lines_of, matches, first_match}
 
 -- where a line is there, nothing ahead of it changes nothing

@@ -1,4 +1,5 @@
--- Laws that the proofs of requests cite. Assumes nothing.
+-- Nine objects at most, and laws that the proofs of requests cite. Assumes nothing.
+pub mod NineObjects
 mod Words
 mod Numbers
 mod Walk

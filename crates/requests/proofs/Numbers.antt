@@ -1,12 +1,7 @@
 -- The number of a word, digit by digit, held at one too large. Assumes nothing.
-use Prim.Native.Nat.{ℕ, ◌+◌, ◌-◌, ◌*◌, ◌≤◌, ◌<◌, min}
-use native.Mathlib.Omega.{arith}
-use mathlib.Core.Path.{◌≡◌, refl, sym, ap, ◌∙◌}
-use mathlib.Core.Bool.{Bool, true, false, cond, ◌&&◌, and_false}
-use mathlib.Core.List.{List, [], ◌∷◌}
+use Rattle.std.proofs.Common.{ℕ, ◌+◌, ◌-◌, ◌*◌, ◌≤◌, ◌<◌, min, ◌≡◌, refl, sym, ap, ◌∙◌, Bool, true, false, cond, List, [], ◌∷◌, leb, ltb, length, get_or, drop, drop_of_length-le, arith}
+use Rattle.std.proofs.Math.Bool.{and-false}
 use borrow.Author.Tests.{leb-true, leb-false, ltb-true, ltb-false, lt-ltb}
-use lib.Dec.{leb, ltb}
-use lib.ListN.{length, get_or, drop, drop_of_length-le}
 use Rattle.requests.proofs.Words.{opened}
 use Rattle.requests.specs.Requests.{number_most, is_digit, all_digits, number_on, number_of, is_number}
 use Rattle.requests.specs.RequestsLaws.{both_true}
@@ -58,7 +53,7 @@ module _ (word : List ℕ) (i n : ℕ) (here : i < length word) (c : Counted wor
   unfolding all_digits is_number number_in
   number_not other =
       let none : all_digits word ≡ false = sym c.digits ∙ rw (opened word i here, other) in
-      rw (none, and_false (ltb 0 (length word)))
+      rw (none, and-false (ltb 0 (length word)))
 
 number_by :
     (small : Bool) (word : List ℕ) (n : ℕ) → leb (number_of word) number_most ≡ small → n ≤ number_most + 1 → min (number_most + 1) n ≡ min (number_most + 1) (number_of word)

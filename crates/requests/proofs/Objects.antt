@@ -1,11 +1,6 @@
 -- The objects of a list, stored one by one. Assumes nothing.
-use Prim.Native.Nat.{ℕ, ◌+◌, ◌≤◌, min}
-use native.Mathlib.Omega.{arith}
-use mathlib.Core.Path.{◌≡◌, refl}
-use mathlib.Core.Bool.{true, false, cond}
-use mathlib.Core.List.{List, [], ◌∷◌, map}
-use lib.ListN.{length, set, replicate}
-use lib.Seq.{set_out}
+use Rattle.std.proofs.Common.{ℕ, ◌+◌, ◌≤◌, min, ◌≡◌, refl, true, false, cond, List, [], ◌∷◌, map, length, set, replicate, arith}
+use Rattle.std.proofs.Math.Seq.{set_out}
 use Rattle.requests.specs.declared.Listed.{Listed}
 use Rattle.requests.specs.Requests.{is_number, all_numbers, byte_of, first_nine}
 use Rattle.requests.specs.Walk.{list_read}

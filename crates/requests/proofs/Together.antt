@@ -1,12 +1,7 @@
 -- The seven names with their numbers, read one behind the other, are the request. Assumes nothing.
-use Prim.Native.Nat.{ℕ, ◌+◌, ◌≤◌, ◌<◌, min}
-use native.Mathlib.Omega.{arith}
-use mathlib.Core.Path.{◌≡◌, refl, sym, ap, ◌∙◌}
-use mathlib.Core.Bool.{Bool, true, false, cond, ◌&&◌}
-use mathlib.Core.List.{List, []}
+use Rattle.std.proofs.Common.{ℕ, ◌+◌, ◌≤◌, ◌<◌, min, ◌≡◌, refl, sym, ap, ◌∙◌, Bool, true, false, cond, ◌&&◌, List, [], length, drop, drop-drop, arith}
+use Rattle.std.proofs.Math.Seq.{get_or-drop}
 use borrow.Author.Tests.{le-leb, lt-leb}
-use lib.ListN.{length, drop}
-use lib.Seq.{get_or-drop, drop-drop}
 use Rattle.requests.proofs.Words.{words_within}
 use Rattle.requests.specs.declared.Named.{Named}
 use Rattle.requests.specs.declared.Asked.{Asked}

@@ -1,13 +1,8 @@
 -- A name, and a name with its number, where a word is there and where none is. Assumes nothing.
-use Prim.Native.Nat.{ℕ, ◌+◌, ◌-◌, ◌≤◌, ◌<◌}
-use native.Mathlib.Omega.{arith}
-use mathlib.Core.Path.{◌≡◌, refl, sym, ap, ◌∙◌}
-use mathlib.Core.Bool.{Bool, true, false, cond, ◌&&◌, and_false}
-use mathlib.Core.List.{List, [], ◌∷◌}
+use Rattle.std.proofs.Common.{ℕ, ◌+◌, ◌-◌, ◌≤◌, ◌<◌, ◌≡◌, refl, sym, ap, ◌∙◌, Bool, true, false, cond, ◌&&◌, List, [], ◌∷◌, leb, ltb, length, take, drop, drop-drop, arith}
+use Rattle.std.proofs.Math.Seq.{get_or-drop}
+use Rattle.std.proofs.Math.Bool.{and-false}
 use borrow.Author.Tests.{leb-true, lt-ltb}
-use lib.Dec.{leb, ltb}
-use lib.ListN.{length, take, drop}
-use lib.Seq.{get_or-drop, drop-drop}
 use Rattle.requests.proofs.Words.{words_behind}
 use Rattle.requests.specs.declared.Named.{Named}
 use Rattle.requests.specs.Requests.{word_at, same, number_most, all_digits, number_of, is_number, asks}
@@ -47,9 +42,6 @@ module _ (name : List ℕ) (from : ℕ) (text : List ℕ) where
       let none = words_behind from text h in
       record { read = rw none (sym (same_empty name some)); next = rw none }
 
-  pub name_there : (to : ℕ) → WordEnds from text to → NamedAt name from text (record { read = same (take (to - from) (drop from text)) name; next = to + 1 })
-  name_there to w = record { read = rw w.words; next = rw w.words }
-
 -- ---- a name and its number
 
 module _ (name : List ℕ) (from : ℕ) (text : List ℕ) (n : Named) (named : NamedAt name from text n) where
@@ -68,7 +60,7 @@ module _ (name : List ℕ) (from : ℕ) (text : List ℕ) (n : Named) (named : N
   unfolding is_number
   asked_behind h =
       let none = words_behind n.next text h in
-      record { read = sym (asked_next [] none ∙ and_false n.read); number = refl; next = none ∙ sym (asked_rest [] none) }
+      record { read = sym (asked_next [] none ∙ and-false n.read); number = refl; next = none ∙ sym (asked_rest [] none) }
 
   module _ (to : ℕ) (w : WordEnds n.next text to) where
     abbrev word : List ℕ

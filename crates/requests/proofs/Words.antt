@@ -1,14 +1,8 @@
 -- The first word of what is left of a text, byte by byte: the bytes so far stand ahead of the words that follow. Assumes nothing.
-use Prim.Native.Nat.{ℕ, suc, ◌+◌, ◌-◌, ◌≤◌, ◌<◌}
-use native.Mathlib.Omega.{arith}
-use native.Mathlib.Numerals.{add-one}
-use mathlib.Core.Path.{◌≡◌, refl, sym, ap, ◌∙◌}
-use mathlib.Core.Bool.{Bool, true, false, cond, and_false}
-use mathlib.Core.List.{List, [], ◌∷◌, ◌++◌, append-nil, append_assoc}
+use Rattle.std.proofs.Common.{ℕ, suc, ◌+◌, ◌-◌, ◌≤◌, ◌<◌, ◌≡◌, refl, sym, ap, ◌∙◌, Bool, true, false, cond, List, [], ◌∷◌, ◌++◌, append-nil, append_assoc, eqb, length, get_or, take, drop, length-drop, drop_of_length-le, add-one, arith}
+use Rattle.std.proofs.Math.Seq.{drop-cons, take-suc, get_or-drop}
+use Rattle.std.proofs.Math.Bool.{and-false}
 use borrow.Author.Tests.{le-leb, lt-leb}
-use lib.Dec.{eqb}
-use lib.ListN.{length, get_or, take, drop, length-drop, drop_of_length-le}
-use lib.Seq.{drop-cons, take-suc, get_or-drop}
 use Rattle.requests.specs.Requests.{ahead, words_of, same}
 use Rattle.requests.specs.Walk.{words_from, WordEnds}
 
@@ -112,4 +106,4 @@ unfolding same
 same_length [] [] h = absurd (h refl)
 same_length [] (b ∷ name) h = refl
 same_length (a ∷ word) [] h = refl
-same_length (a ∷ word) (b ∷ name) h = rw (same_length word name (λ (e : length word ≡ length name). h (ap suc e))) (and_false (eqb a b))
+same_length (a ∷ word) (b ∷ name) h = rw (same_length word name (λ (e : length word ≡ length name). h (ap suc e))) (and-false (eqb a b))

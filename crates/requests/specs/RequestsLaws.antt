@@ -1,8 +1,8 @@
 -- What the words of a text are, and what is read of some texts. Assumes nothing.
-use Rattle.std.specs.Prelude.{ℕ, ◌≤◌, ◌<◌, ◌≡◌, refl, Bool, true, false, cond, not, ◌&&◌, List, [], ◌∷◌, ◌++◌, map, eqb, length, replicate}
+use Rattle.std.specs.Prelude.{ℕ, ◌<◌, ◌≡◌, refl, Bool, true, false, cond, not, ◌&&◌, List, [], ◌∷◌, ◌++◌, map, eqb, length, replicate}
 use Prim.Native.String.{String}
 use Rattle.std.proofs.Common.{arith, sym, ap, ◌∙◌, true≢false, eqb-true}
-use Rattle.std.proofs.lemmas.Bool.{not_true}
+use Rattle.std.proofs.lemmas.Bool.{not-true}
 use Rattle.requests.specs.Requests.{ahead, words_of, text_bytes, same, all_digits, number_on, is_number, all_numbers, asks, in_order, is_request, asked, no_request, request_of}
 
 pub both_true : (a b : Bool) → (a && b) ≡ true → (a ≡ true) × (b ≡ true)
@@ -20,17 +20,6 @@ none_by false words e = refl
 pub not_read_asks_nothing : (text : List ℕ) → (request_of text).read ≡ false → request_of text ≡ no_request
 unfolding request_of
 not_read_asks_nothing text e = none_by (is_request text) (words_of text) e
-
--- ---- nine objects at most
-
-few_by : (is : Bool) (words : List (List ℕ)) → (cond is (asked words) no_request).count ≤ 9
-unfolding asked
-few_by true words = omega arith
-few_by false words = omega arith
-
-pub few_objects : (text : List ℕ) → (request_of text).count ≤ 9
-unfolding request_of
-few_objects text = few_by (is_request text) (words_of text)
 
 -- ---- words and text turn into each other without loss
 
@@ -77,14 +66,14 @@ unfolding words_of
 word_alone [] e = refl
 word_alone (b ∷ word) e =
     let both = both_true (not (eqb b 32)) (spaceless word) e in
-    rw (not_true (eqb b 32) both.0, word_alone word both.1)
+    rw (not-true (eqb b 32) both.0, word_alone word both.1)
 
 word_first : (word text : List ℕ) → spaceless word ≡ true → words_of (word ++ (32 ∷ text)) ≡ word ∷ words_of text
 unfolding words_of
 word_first [] text e = refl
 word_first (b ∷ word) text e =
     let both = both_true (not (eqb b 32)) (spaceless word) e in
-    rw (not_true (eqb b 32) both.0, word_first word text both.1)
+    rw (not-true (eqb b 32) both.0, word_first word text both.1)
 
 -- of words without spaces
 pub joined_words : (word : List ℕ) (words : List (List ℕ)) → all_spaceless (word ∷ words) ≡ true → words_of (joined (word ∷ words)) ≡ word ∷ words
@@ -110,23 +99,6 @@ pub sample_read :
     }
 unfolding request_of asked in_order asks same is_number all_numbers all_digits number_on words_of
 sample_read = refl
-
--- the largest numbers, numbers that count as 255, leading zeros, and of ten objects the first nine
-pub most_read :
-    request_of (text_bytes "beam 4294967295 margin 0000000000007 home 256 slot 4294967295 quiesce 0 release 0 objects 1 2 3 4 5 6 7 300 9 10")
-    ≡ record {
-      read = true;
-      beam = 4294967295;
-      margin = 7;
-      home = 255;
-      slot = 255;
-      quiesce = 0;
-      release = 0;
-      objects = 1 ∷ 2 ∷ 3 ∷ 4 ∷ 5 ∷ 6 ∷ 7 ∷ 255 ∷ 9 ∷ [];
-      count = 9;
-    }
-unfolding request_of asked in_order asks same is_number all_numbers all_digits number_on words_of
-most_read = refl
 
 abbrev read_all : List String → List Bool
 read_all texts = map (λ (text : String). (request_of (text_bytes text)).read) texts

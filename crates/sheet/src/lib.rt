@@ -33,6 +33,7 @@ fn has_mark(b: &[u8]) -> bool
 }
 
 // The four refusals of a sheet, in their order.
+#[tactic(auto, unfolding(rules::specs::Sheet::sheet_answer))]
 pub fn sheet_answer(b: &[u8]) -> SheetAnswer
     ensures { result ≡ sheet_answer b.now }
 {
