@@ -19,7 +19,7 @@ use rules::steps::Step;
 use rules::tables::Tables;
 
 // What a check refuses by itself, before any step, in the order in which it is tried.
-#[derive(Drop)]
+#[derive(Clone, Copy)]
 pub enum OwnRefusal {
     Beam,
     Margin,
@@ -29,7 +29,7 @@ pub enum OwnRefusal {
 }
 
 // No reading names the step that was refused, and its refusal.
-#[derive(Drop)]
+#[derive(Clone, Copy)]
 pub enum Verdict {
     Refused(OwnRefusal),
     NoReading(Step, Refusal),
@@ -39,7 +39,7 @@ pub enum Verdict {
 
 // What a check gives: its verdict, the widths that it shows and their count, how many objects it read.
 // The handle means something only where a passage was begun.
-#[derive(Drop)]
+#[derive(Clone, Copy)]
 pub struct Cleared {
     pub verdict: Verdict,
     pub widths: [u32; 8],
@@ -51,7 +51,7 @@ pub struct Cleared {
 }
 
 // A check under way: the last step that it made, the answer to it, and the tables that it left.
-#[derive(Drop)]
+#[derive(Clone, Copy)]
 struct Way {
     step: Step,
     answer: Answer,
@@ -59,7 +59,7 @@ struct Way {
 }
 
 // The reads of a check: how far it came, the widths that it read, and how many.
-#[derive(Drop)]
+#[derive(Clone, Copy)]
 struct Reads {
     way: Way,
     widths: [u32; 8],
