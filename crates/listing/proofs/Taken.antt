@@ -1,12 +1,6 @@
 -- What the listing of a sheet is, taken or refused. Assumes nothing.
-use Prim.Native.Nat.{ℕ, ◌/◌}
-use mathlib.Core.Path.{◌≡◌, refl}
-use mathlib.Core.List.{List, [], ◌∷◌}
-use lib.ListN.{length}
-use denote.Enum.Declared.{tag_of}
-use types.Run.{OneOf, miss}
+use Rattle.std.proofs.Common.{◌/◌, ◌≡◌, ◌≢◌, refl, List, ℕ, length}
 use Rattle.rules.specs.declared.steps.SheetAnswer.{SheetAnswer}
-use Rattle.rules.specs.contracts.steps.SheetAnswer.{the_type}
 use Rattle.rules.specs.Sheet.{sheet_answer, sheet_number, sheet_records}
 use Rattle.rules.specs.Listing.{printed_up_to, sheet_line, listing_by, listing_of}
 
@@ -17,15 +11,15 @@ unfolding listing_of
 listing_taken b e = rw e
 
 -- a sheet that is not taken has one line, with its number
-refused_by_lem : (a : SheetAnswer) (part : List ℕ) → OneOf (1 ∷ 2 ∷ 3 ∷ 4 ∷ []) (tag_of the_type a) → sheet_line (sheet_number a) ≡ listing_by a part
-refused_by_lem SheetAnswer.Taken part h = absurd (miss (1 ∷ 2 ∷ 3 ∷ 4 ∷ []) 0 tt h)
+refused_by_lem : (a : SheetAnswer) (part : List ℕ) → a ≢ SheetAnswer.Taken → sheet_line (sheet_number a) ≡ listing_by a part
+refused_by_lem SheetAnswer.Taken part h = absurd (h refl)
 refused_by_lem SheetAnswer.TooLong part h = refl
 refused_by_lem SheetAnswer.TooShort part h = refl
 refused_by_lem SheetAnswer.BadMark part h = refl
 refused_by_lem SheetAnswer.BadDistance part h = refl
 
 pub listing_refused :
-    (b : List ℕ) (a : SheetAnswer) → a ≡ sheet_answer b → OneOf (1 ∷ 2 ∷ 3 ∷ 4 ∷ []) (tag_of the_type a)
+    (b : List ℕ) (a : SheetAnswer) → a ≡ sheet_answer b → a ≢ SheetAnswer.Taken
     → sheet_line (sheet_number a) ≡ listing_of b
 unfolding listing_of
 listing_refused b a e h = rw (← e) (refused_by_lem a (sheet_records b) h)

@@ -5,7 +5,7 @@ use native.Mathlib.Numerals.{add-one}
 use mathlib.Core.Path.{◌≡◌}
 use mathlib.Core.Bool.{true}
 use mathlib.Core.List.{List, [], ◌∷◌}
-use lib.ListN.{length, set, length-set}
+use lib.ListN.{length}
 use Rattle.rules.specs.declared.tables.Tables.{Tables}
 use Rattle.rules.specs.declared.steps.Reading.{Reading}
 use Rattle.rules.specs.declared.outcomes.Answer.{Answer}
@@ -16,7 +16,7 @@ use Rattle.rules.specs.Record.{step_of_record, reading_of, record_in_range_of, s
 use Rattle.rules.specs.Sheet.{record_at}
 use Rattle.rules.specs.Answers.{answer_number, answer_value}
 use Rattle.rules.specs.Listing.{printed_up_to}
-use Rattle.buffer.specs.Text.{Puts, put_none, put_one, put_both}
+use Rattle.buffer.specs.Text.{Puts, put_none, put_both}
 use Rattle.running.specs.Answered.{answer_at, answered_up_to, room_for, PutsAnswers}
 
 -- on tables in range number 20 is not met
@@ -54,15 +54,6 @@ pub outcome_next :
     → (o.tables ≡ (printed_up_to part (n + 1)).tables) × (o.answer ≡ answer_at part n)
 unfolding record_in_range_of
 outcome_next part n t b r o e f g h = (rw (h, g, f, e) (tables_next part n), rw (h, g, f, e) (answer_next part n))
-
--- two stores, one behind the other, are a text of two
-pub put_two :
-    (buf : List ℕ) (at x y : ℕ) → at + 2 ≤ length buf
-    → Puts buf at (x ∷ y ∷ []) (set (set buf at x) (at + 1) y) (at + 2)
-put_two buf at x y h =
-    let e : at + 1 + 1 ≡ at + 2 = omega arith in
-    let l : at + 1 < length (set buf at x) = rw (length-set buf at x) (omega arith) in
-    rw (← e) (put_both (omega arith) (put_one buf at x (omega arith)) (put_one (set buf at x) (at + 1) y l))
 
 -- before the first record no answer is put
 pub answered_none : (part buf : List ℕ) → PutsAnswers part 0 buf buf
