@@ -1,5 +1,4 @@
--- The rules of document 01, with what document 02 has changed of them, as definitions in its order and words, with the laws that later work cites.
--- Types (names only), then one file a subject; a file NAMELaws holds laws about the definitions of NAME.
+-- Laws of the rules, which later work cites: a file NAMELaws holds laws about the definitions of NAME, a file Effects.. what an accepted step leaves.
 pub mod SettledLaws
 pub mod RefusedLaws
 pub mod TwentyLaws

@@ -1,3 +1,3 @@
--- What a commit rests on and what it leaves: a passage that is over stays over, and a commit is whole.
+-- Definitions for what a commit rests on and what it leaves.
 pub mod Definitions
 pub mod Vow

@@ -1,2 +1,2 @@
--- What happened, as a list: its definitions over a run, what each step does to who holds an object, and who holds one by the list.
+-- What happened, as a list: its definitions over a run.
 pub mod Uses

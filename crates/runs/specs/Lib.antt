@@ -1,4 +1,4 @@
--- Theorems over runs: what holds of the tables after every list of steps or records from the start. A folder for each subject.
+-- What the theorems over runs speak of. A folder for each subject, as in proofs/, where the theorems stand.
 pub mod Types
 pub mod Walk
 pub mod Times

@@ -1,2 +1,2 @@
--- How a store moves the passage that it is for: by kinds, read off every step, and what the kinds have in common.
+-- Definitions for how a store moves the passage that it is for.
 pub mod Definitions

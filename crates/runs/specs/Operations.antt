@@ -1,3 +1,2 @@
--- What one step does, of any tables: what an operation finds and leaves, what a call says, what a reply answers,
--- when a delivery comes and how a message is stamped, by what an object is let go, what becomes of one that is held, and what a crash strikes, a sweep takes and a terminate unmarks.
+-- Definitions for what one step does, of any tables.
 pub mod Definitions

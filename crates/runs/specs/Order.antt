@@ -1,2 +1,2 @@
--- Operations come before lettings go, by their stamps, in whichever order the steps came; so nobody reads on both sides of another's change.
+-- Definitions for the order of operations and lettings go.
 pub mod Definitions

@@ -1,5 +1,4 @@
--- Demand 3: its definitions, what is watched of an orphan along a run, the sweep and the theorem, and that every station can be cleared;
--- then that an orphan's figures are undone.
+-- Definitions for demand 3, for what is watched of an orphan along a run, and for the widths that stand.
 pub mod Orphans
 pub mod Clears
 pub mod Watch

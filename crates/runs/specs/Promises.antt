@@ -1,2 +1,2 @@
--- What people with a handle or a station's promise rely on.
+-- Definitions for what people with a handle or a station's promise rely on.
 pub mod Definitions

@@ -1,2 +1,2 @@
--- What the machine is for: holds are kept until release, a commit rests on what stands, and a pair of changes stands or falls together.
+-- Definitions for what the machine is for.
 pub mod Definitions

@@ -1,4 +1,4 @@
--- Words for sheets: the grammar, the reader as a fold over bytes, the writer, and that each gives back what the other was given.
+-- Words for sheets: the reader and the writer each give back what the other was given.
 pub mod Spelling
 pub mod ScanLaws
 pub mod StepLaws

@@ -1,4 +1,4 @@
--- Words for sheets: the grammar, the reader as a fold over bytes, the writer, and that each gives back what the other was given.
+-- Words for sheets: the grammar, the reader as a fold over bytes, and the writer. The laws stand in proofs/.
 pub mod Types
 pub mod Grammar
 pub mod Scan

@@ -11,7 +11,7 @@ use Rattle.rules.specs.Rounds.{open_checks, opened_passage, open_done}
 use Rattle.rules.specs.Machine.{looks_home, places_of, seen_of}
 use Rattle.rules.specs.declared.looking.MailAt.{MailAt}
 use Rattle.runs.specs.Types.{Kind, Status, Tables}
-use Rattle.runs.specs.Walk.Says.{is_refresh, is_prepare}
+use Rattle.runs.specs.Walk.Says.{is_refresh}
 use Rattle.runs.specs.Walk.Put.{put, put_same}
 use Rattle.runs.specs.Times.View.{View, Ledger, view_of, ledger_noted}
 use Rattle.runs.specs.Times.Clauses.{Holds}

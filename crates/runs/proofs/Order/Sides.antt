@@ -2,7 +2,7 @@
 -- and the second operating an object y before the first does.
 -- The idea: between the two operations of the one object the first has let it go, at a smaller stamp than the second's operation;
 -- so every operation of the first is before it, and the other way round. Assumes nothing.
-use Rattle.std.specs.Prelude.{ℕ, ◌+◌, ◌≤◌, ◌<◌, ◌≡◌, Bool, cond, ◌&&◌, eqb}
+use Rattle.std.specs.Prelude.{ℕ, ◌≤◌, ◌<◌, ◌≡◌, Bool, cond, ◌&&◌, eqb}
 use Rattle.std.proofs.Common.{arith, ◌∙◌, inl, inr, true≢false}
 use Rattle.std.proofs.Math.Path.{refl, sym, ap, subst, subst₂}
 use Rattle.std.proofs.Math.Logic.{⊎_elim}

@@ -9,14 +9,13 @@ use mathlib.Core.List.{List, [], ◌∷◌, ◌++◌}
 use Rattle.rules.specs.LoopsLaws.{either}
 use Rattle.rules.specs.Answers.{is_accepted}
 use Rattle.rules.specs.Ranges.{in_range}
-use Rattle.rules.specs.Machine.{look_of, places_of, seen_of, head_of, turn_of, turns_up_to, turn_count, step_in_range_of, refused_all, step_of}
+use Rattle.rules.specs.Machine.{look_of, head_of, turn_of, turns_up_to, turn_count, step_in_range_of, refused_all, step_of}
 use Rattle.rules.proofs.RangesKept.{turn_count_most}
 use Rattle.rules.proofs.RefusedLaws.{refused_leaves, turns_keep, record_is_step}
 use Rattle.rules.specs.Record.{step_of_record, reading_of, record_in_range_of, step_record_of}
 use Rattle.rules.specs.Runs.{run_of, run_records_of}
-use Rattle.runs.specs.Types.{Tables, Step, Places, Seen, Outcome}
+use Rattle.runs.specs.Types.{Tables, Step, Outcome}
 use Rattle.rules.specs.declared.looking.Trip.{Trip}
-use Rattle.runs.specs.Walk.Seen.{places_at, seen_at}
 use Rattle.rules.specs.declared.steps.Reading.{Reading}
 
 -- ---- a ghost along a run: what an accepted step's own store does to it, and what each slot's turn does
