@@ -2,8 +2,6 @@
 pub mod Question
 pub mod Clearing
 pub mod Underway
-pub mod Reads
-pub mod Asks
 pub mod Begun
 pub mod Ends
 pub mod HeldTogether

@@ -7,7 +7,8 @@ use Rattle.names.specs.Names.{ahead, lines_of, matches, first_match, line_for}
 use Rattle.names.specs.NamesLaws.{station_first, company_next}
 use Rattle.clearing.specs.declared.Cleared.{Cleared}
 use Rattle.clearing.specs.Clearing.{cleared_of}
-use Rattle.clearing.specs.Ends.{Ends, ends}
+use Rattle.clearing.specs.Ends.{Ends}
+use Rattle.clearing.proofs.Ends.{ends}
 
 -- ---- a line is at most as long as its list
 
