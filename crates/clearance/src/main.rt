@@ -2,65 +2,35 @@
 // Nothing else is decided here.
 #![tactic(auto)]
 
-ghost use Rattle.std.specs.Prelude.{◌≤◌, length};
-
-use libc::STDOUT_FILENO;
 use reporting::report;
+use std::env::Env;
+use std::fs;
+use std::io;
+use std::io::{ErrorKind, Read, Write};
 
-// What was read of a file: how many bytes, and whether it is all, or as much as there is room for.
-#[derive(Drop)]
-struct Taken {
-    whole: bool,
-    count: usize,
+// The file that argument i names: all of it, or as many bytes as are wanted at most.
+fn take(rt: &HostRuntime, i: usize, most: u64) -> io::Result<Vec<u8>> {
+    let mut path = [0u8; 4096];
+    let Ok(k) = rt.arg(i, &mut path) else {
+        return Err(io::Error::from(ErrorKind::NotFound));
+    };
+    let Ok(name) = str::from_utf8(&path[..k]) else {
+        return Err(io::Error::from(ErrorKind::NotFound));
+    };
+    let mut bytes = Vec::new(rt.alloc());
+    fs::open(rt, name)?.take(most).read_to_end(&mut bytes)?;
+    Ok(bytes)
 }
 
-// Whether the input ended where reading stopped, and did not fail.
-fn at_end(fd: i32) -> bool {
-    let mut one = [0u8; 1];
-    libc::read(fd, &mut one) == 0
-}
-
-// The file that argument i names, at the front of the buffer.
-fn take(i: usize, buf: &mut [u8]) -> Taken
-    ensures { result.count ≤ length buf.new }
-{
-    let mut path = io::buffer();
-    let k = os::arg(i, &mut path);
-    let fd = os::open_read(&path[..k]);
-    if fd < 0 {
-        return Taken {
-            whole: false,
-            count: 0,
-        };
-    }
-    let n = io::read_full(fd, buf);
-    let whole = (n == buf.len()) | at_end(fd);
-    Taken {
-        whole: whole,
-        count: n,
-    }
-}
-
-fn main() {
+fn main(rt: HostRuntime) -> io::Result<()> {
     // One byte more than the longest of each, so that a longer one is seen to be longer.
-    let mut station = [0u8; 16385];
-    let mut company = [0u8; 16385];
-    let mut sheet = [0u8; 65537];
-    let mut text = [0u8; 65537];
-    let mut out = [0u8; 262144];
-    let s = take(1, &mut station);
-    let c = take(2, &mut company);
-    let n = take(3, &mut sheet);
+    let station = take(&rt, 1, 16385)?;
+    let company = take(&rt, 2, 16385)?;
+    let sheet = take(&rt, 3, 65537)?;
     // A longer one has no bytes here, and so is not read.
-    let k = os::arg(4, &mut text);
-    if s.whole & c.whole & n.whole {
-        let m = report(
-            &text[..k],
-            &station[..s.count],
-            &company[..c.count],
-            &sheet[..n.count],
-            &mut out,
-        );
-        io::write_all(STDOUT_FILENO, &out[..m]);
-    }
+    let mut text = [0u8; 65537];
+    let k = rt.arg(4, &mut text).unwrap_or(0);
+    let mut out = [0u8; 262144];
+    let m = report(&text[..k], &station, &company, &sheet, &mut out);
+    rt.stdout().write_all(&out[..m])
 }

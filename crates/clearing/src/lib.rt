@@ -19,7 +19,7 @@ use rules::steps::Step;
 use rules::tables::Tables;
 
 // What a check refuses by itself, before any step, in the order in which it is tried.
-#[derive(Drop)]
+#[derive(Clone, Copy)]
 pub enum OwnRefusal {
     Beam,
     Margin,
@@ -29,7 +29,7 @@ pub enum OwnRefusal {
 }
 
 // No reading names the step that was refused, and its refusal.
-#[derive(Drop)]
+#[derive(Clone, Copy)]
 pub enum Verdict {
     Refused(OwnRefusal),
     NoReading(Step, Refusal),
@@ -39,7 +39,7 @@ pub enum Verdict {
 
 // What a check gives: its verdict, the widths that it shows and their count, how many objects it read.
 // The handle means something only where a passage was begun.
-#[derive(Drop)]
+#[derive(Clone, Copy)]
 pub struct Cleared {
     pub verdict: Verdict,
     pub widths: [u32; 8],
@@ -51,7 +51,7 @@ pub struct Cleared {
 }
 
 // A check under way: the last step that it made, the answer to it, and the tables that it left.
-#[derive(Drop)]
+#[derive(Clone, Copy)]
 struct Way {
     step: Step,
     answer: Answer,
@@ -59,7 +59,7 @@ struct Way {
 }
 
 // The reads of a check: how far it came, the widths that it read, and how many.
-#[derive(Drop)]
+#[derive(Clone, Copy)]
 struct Reads {
     way: Way,
     widths: [u32; 8],
@@ -92,6 +92,7 @@ fn then_make(w: Way, s: Step) -> Way
 }
 
 // A step that sends a message, its delivery, and the delivery of what then stands in the same slot.
+#[tactic(auto, unfolding(crate::specs::Clearing::there_and_back))]
 fn there_and_back(w: Way, s: Step) -> Way
     ensures { result ≡ there_and_back w s }
 {
@@ -102,6 +103,7 @@ fn there_and_back(w: Way, s: Step) -> Way
 }
 
 // A read from home: its call goes out and arrives, and the reply comes home with the width.
+#[tactic(auto, unfolding(crate::specs::Clearing::read_one))]
 fn read_one(h: u16, home: u8, w: Way, object: u8) -> Way
     ensures { result ≡ read_one h home w object }
 {
@@ -115,6 +117,7 @@ fn read_one(h: u16, home: u8, w: Way, object: u8) -> Way
     there_and_back(w, call)
 }
 
+#[tactic(auto, unfolding(crate::specs::Clearing::reads_up_to, crate::specs::Clearing::widths_up_to, crate::specs::Clearing::read_count))]
 fn read_all(h: u16, home: u8, objects: &[u8], begun: Way) -> Reads
     requires { length objects.now ≤ 8 }
     ensures { (result.way ≡ reads_up_to h home objects.now begun (length objects.now)) × (result.widths ≡ widths_up_to h home objects.now begun (length objects.now)) × (result.read ≡ read_count h home objects.now begun (length objects.now)) }
@@ -138,6 +141,7 @@ fn read_all(h: u16, home: u8, objects: &[u8], begun: Way) -> Reads
 }
 
 // A station is asked: phase 1 goes out and arrives, and its answer comes home.
+#[tactic(auto, unfolding(crate::specs::Clearing::ask_one))]
 fn ask_one(h: u16, w: Way, site: u8) -> Way
     ensures { result ≡ ask_one h w site }
 {
@@ -148,6 +152,7 @@ fn ask_one(h: u16, w: Way, site: u8) -> Way
     there_and_back(w, question)
 }
 
+#[tactic(auto, unfolding(crate::specs::Clearing::asks_up_to))]
 fn ask_all(h: u16, home: u8, objects: &[u8], prepared: Way) -> Way
     ensures { result ≡ asks_up_to h home objects.now prepared 8 }
 {
@@ -164,6 +169,7 @@ fn ask_all(h: u16, home: u8, objects: &[u8], prepared: Way) -> Way
 }
 
 // A station is told, if it can be.
+#[tactic(auto, unfolding(crate::specs::Clearing::tell_one))]
 fn tell_one(h: u16, t: Tables, site: u8) -> Tables
     ensures { result ≡ tell_one h t site }
 {
@@ -177,6 +183,7 @@ fn tell_one(h: u16, t: Tables, site: u8) -> Tables
     heard.tables
 }
 
+#[tactic(auto, unfolding(crate::specs::Clearing::tells_up_to))]
 fn tell_all(h: u16, home: u8, objects: &[u8], committed: Tables) -> Tables
     ensures { result ≡ tells_up_to h home objects.now committed 8 }
 {
@@ -335,6 +342,7 @@ fn check(
 
 // Whether a ship of this beam clears every width of the list by this margin.
 // The tables are given back as the check leaves them: after own refusals as they were handed in.
+#[tactic(auto, unfolding(crate::specs::Clearing::cleared_of))]
 pub fn clear(
     t: Tables,
     beam: u32,

@@ -23,6 +23,7 @@ pub(crate) fn is_bad_list(objects: &[u8]) -> bool
     (objects.len() == 0) | (8 < objects.len())
 }
 
+#[tactic(auto, unfolding(rules::specs::Loops::some_up_to))]
 pub(crate) fn is_bad_object(objects: &[u8]) -> bool
     ensures { result ≡ bad_object objects.now }
 {
@@ -36,6 +37,7 @@ pub(crate) fn is_bad_object(objects: &[u8]) -> bool
 }
 
 // Whether the object at place i stands at an earlier place too.
+#[tactic(auto, unfolding(rules::specs::Loops::some_up_to))]
 fn is_named_before(objects: &[u8], i: usize) -> bool
     requires { i < length objects.now }
     ensures { result ≡ is_named_before objects.now i }
@@ -49,6 +51,7 @@ fn is_named_before(objects: &[u8], i: usize) -> bool
     found
 }
 
+#[tactic(auto, unfolding(rules::specs::Loops::some_up_to))]
 pub(crate) fn names_twice(objects: &[u8]) -> bool
     ensures { result ≡ names_twice objects.now }
 {
@@ -61,6 +64,7 @@ pub(crate) fn names_twice(objects: &[u8]) -> bool
     found
 }
 
+#[tactic(auto, unfolding(rules::specs::Loops::some_up_to))]
 fn has_object_at(objects: &[u8], site: u8) -> bool
     ensures { result ≡ has_object_at objects.now site }
 {
@@ -79,6 +83,7 @@ pub(crate) fn is_to_ask(home: u8, objects: &[u8], site: u8) -> bool
     (site != home) & has_object_at(objects, site)
 }
 
+#[tactic(auto, unfolding(rules::specs::Loops::every_up_to))]
 pub(crate) fn is_fitting(beam: u32, margin: u32, widths: [u32; 8], count: usize) -> bool
     requires { (beam ≤ 1000000) × (margin ≤ 5000) × (count ≤ 8) }
     ensures { result ≡ is_fitting beam margin widths count }

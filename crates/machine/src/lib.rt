@@ -24,6 +24,7 @@ fn out_of_range(t: Tables) -> Outcome
 }
 
 // The answer and the next tables for any tables and any step.
+#[tactic(auto, unfolding(rules::specs::Machine::step_of, rules::specs::Answers::first_refusal))]
 pub fn step(t: Tables, s: Step) -> Outcome
     ensures { result ≡ step_of t s }
 {
@@ -35,6 +36,7 @@ pub fn step(t: Tables, s: Step) -> Outcome
 }
 
 // The same for a record of 16 bytes: 20, then 1, then the step that it stands for.
+#[tactic(auto, unfolding(rules::specs::Record::step_record_of, rules::specs::Answers::first_refusal))]
 pub fn step_record(t: Tables, bytes: [u8; 16]) -> Outcome
     ensures { result ≡ step_record_of t bytes }
 {

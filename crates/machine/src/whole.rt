@@ -22,6 +22,7 @@ use rules::steps::{Reading, Step};
 use rules::tables::{Message, Tables, Visit};
 
 // The lowest empty message slot, or 32.
+#[tactic(auto, unfolding(rules::specs::Loops::first_up_to))]
 fn lowest_empty(messages: [Message; 32]) -> usize
     ensures { result ≡ first_up_to (λ m. is_empty (get_or messages m past_message).body) 32 }
 {
@@ -36,6 +37,7 @@ fn lowest_empty(messages: [Message; 32]) -> usize
 }
 
 // Where a step with this look sees its records.
+#[tactic(auto, unfolding(rules::specs::Machine::places_of, rules::specs::Machine::lowest_empty))]
 fn places_of(t: Tables, look: Look) -> Places
     ensures { result ≡ places_of t look }
 {
@@ -137,6 +139,7 @@ fn store(t: Tables, at: Places, left: Seen) -> Tables
     next
 }
 
+#[tactic(auto, unfolding(rules::specs::Loops::some_up_to))]
 fn has_visit(visits: [Visit; 128], slot: usize) -> bool
     requires { slot < 16 }
     ensures { result ≡ some_up_to (λ s. (get_or visits (visit_place s slot) past_visit).there) 8 }
@@ -151,6 +154,7 @@ fn has_visit(visits: [Visit; 128], slot: usize) -> bool
     found
 }
 
+#[tactic(auto, unfolding(rules::specs::Loops::some_up_to))]
 fn has_message(messages: [Message; 32], slot: usize) -> bool
     ensures { result ≡ some_up_to (λ m. is_message_of slot (get_or messages m past_message)) 32 }
 {
@@ -164,6 +168,7 @@ fn has_message(messages: [Message; 32], slot: usize) -> bool
 }
 
 // Whether a visit or a message of the slot remains.
+#[tactic(auto, unfolding(rules::specs::Machine::remains))]
 fn remains(t: Tables, slot: usize) -> bool
     requires { slot < 16 }
     ensures { result ≡ remains t slot }
@@ -240,6 +245,7 @@ pub(crate) fn step_in_range(t: Tables, step: Step) -> Outcome
 }
 
 // A record on tables that are in range: a record that stands for no step is refused by 1.
+#[tactic(auto, unfolding(rules::specs::Record::record_in_range_of))]
 pub(crate) fn record_in_range(t: Tables, bytes: [u8; 16]) -> Outcome
     requires { in_range t ≡ true }
     ensures { result ≡ record_in_range_of t bytes }

@@ -2,7 +2,6 @@
 #![tactic(auto)]
 
 use answers::{answer_number, answer_value};
-use libc::STDOUT_FILENO;
 use machine::{step, step_record};
 use rules::outcomes::Outcome;
 use rules::steps::Step;
@@ -10,17 +9,14 @@ use rules::tables::{
     Body, Call, Holder, Kind, Message, Object, Passage, Phase, Round, Site, Status, Tables, Visit,
 };
 use start::start;
+use std::io;
 
-fn show(o: Outcome) {
+fn show(rt: &HostRuntime, o: Outcome) -> io::Result<()> {
     let answer = o.answer;
-    let t = o.tables;
-    let site = t.sites[0];
-    io::print_decimal(STDOUT_FILENO, answer_number(answer));
-    io::write_all(STDOUT_FILENO, b" ");
-    io::print_decimal(STDOUT_FILENO, answer_value(answer));
-    io::write_all(STDOUT_FILENO, b" ");
-    io::print_decimal(STDOUT_FILENO, site.clock);
-    io::write_all(STDOUT_FILENO, b"\n");
+    let number = answer_number(answer);
+    let value = answer_value(answer);
+    let clock = o.tables.sites[0].clock;
+    println!(rt; "{number} {value} {clock}")
 }
 
 // A clock above its range.
@@ -104,16 +100,16 @@ fn lone_call() -> Tables {
     t
 }
 
-fn main() {
+fn main(rt: HostRuntime) -> io::Result<()> {
     let tick = Step::Tick { site: 0, n: 5 };
     let sweep = Step::Sweep { site: 0 };
     let deliver = Step::Deliver { message: 31 };
-    show(step(start(), tick));
-    show(step(late_clock(), tick));
-    show(step(odd_holder(), tick));
-    show(step(odd_phase(), tick));
-    show(step(lone_visit(), sweep));
-    show(step(lone_call(), deliver));
-    show(step_record(late_clock(), [17u8; 16]));
-    show(step_record(start(), [17u8; 16]));
+    show(&rt, step(start(), tick))?;
+    show(&rt, step(late_clock(), tick))?;
+    show(&rt, step(odd_holder(), tick))?;
+    show(&rt, step(odd_phase(), tick))?;
+    show(&rt, step(lone_visit(), sweep))?;
+    show(&rt, step(lone_call(), deliver))?;
+    show(&rt, step_record(late_clock(), [17u8; 16]))?;
+    show(&rt, step_record(start(), [17u8; 16]))
 }

@@ -1,25 +1,15 @@
 // A sheet on standard input, its listing on standard output. Nothing is decided here.
 #![tactic(auto)]
 
-use libc::{STDIN_FILENO, STDOUT_FILENO};
 use listing::list;
+use std::io;
+use std::io::{Read, Write};
 
-// Whether the input ended where reading stopped, and did not fail.
-fn at_end() -> bool {
-    let mut one = [0u8; 1];
-    libc::read(STDIN_FILENO, &mut one) == 0
-}
-
-fn main() {
+fn main(rt: HostRuntime) -> io::Result<()> {
     // One byte more than the longest sheet, so that a longer one is seen to be longer.
-    let mut sheet = [0u8; 65537];
+    let mut sheet = Vec::new(rt.alloc());
+    rt.stdin().take(65537).read_to_end(&mut sheet)?;
     let mut out = [0u8; 262144];
-    let n = io::read_full(STDIN_FILENO, &mut sheet);
-    if n < 65537 {
-        if !at_end() {
-            return;
-        }
-    }
-    let k = list(&sheet[..n], &mut out);
-    io::write_all(STDOUT_FILENO, &out[..k]);
+    let k = list(&sheet, &mut out);
+    rt.stdout().write_all(&out[..k])
 }

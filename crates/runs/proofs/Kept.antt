@@ -10,6 +10,7 @@ pub mod Calls
 pub mod Round
 pub mod Open
 pub mod Closing
+pub mod Answered
 pub mod Closed
 pub mod Life
 pub mod Deliver

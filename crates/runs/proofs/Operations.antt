@@ -5,6 +5,7 @@ pub mod Operated
 pub mod Invoked
 pub mod Delivered
 pub mod Mail
+pub mod Waits
 pub mod Replied
 pub mod HeldAway
 pub mod LetGo

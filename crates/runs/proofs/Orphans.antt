@@ -12,7 +12,9 @@ pub mod WatchCalls
 pub mod WatchSteps
 pub mod Swept
 pub mod OrphansGone
+pub mod Moment
 pub mod DemandThree
+pub mod DemandThreeForms
 pub mod Cleared
 pub mod Rests
 pub mod RestSteps

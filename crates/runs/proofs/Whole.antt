@@ -2,6 +2,7 @@
 pub mod Release
 pub mod Running
 pub mod RestsOn
+pub mod ReadStands
 pub mod HeldTogether
 pub mod Whole
 pub mod CommitIsWhole

@@ -27,7 +27,7 @@ use Rattle.runs.specs.Times.Clauses.{sent_figures, Holds}
 use Rattle.runs.proofs.Times.Store.{own_view, other_view}
 use Rattle.runs.proofs.Times.Ledgers.{head_ledgers, turn_ledgers, ledgers_of, fitting_after_decided}
 use Rattle.runs.proofs.Kept.Masks.{answered_here, answered_other}
-use Rattle.runs.proofs.Kept.Closing.{closing_binding}
+use Rattle.runs.proofs.Kept.Answered.{closing_binding}
 use Rattle.runs.specs.Moves.Definitions.{OpenedFrom, Move, Turn}
 use Rattle.runs.proofs.Moves.Laws.{where_is, where_not, turned_unmade}
 use Rattle.runs.proofs.Moves.Steps.{move_of, turn_of_lem}

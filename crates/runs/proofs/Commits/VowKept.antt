@@ -15,7 +15,7 @@ use Rattle.runs.specs.Walk.Put.{put, put_all}
 use Rattle.runs.specs.Times.View.{View, Ledger, no_ledger, ledger_noted}
 use Rattle.runs.specs.Times.Clauses.{Holds}
 use Rattle.runs.proofs.Times.Store.{left_view}
-use Rattle.runs.proofs.Kept.Closing.{closing_binding}
+use Rattle.runs.proofs.Kept.Answered.{closing_binding}
 use Rattle.runs.proofs.Kept.Times.{asked_says}
 use Rattle.runs.specs.Moves.Definitions.{is_answer, PlainMail, OpenedFrom, Move, Turn}
 use Rattle.runs.proofs.Moves.Laws.{sites_after, where_is, where_not}

@@ -14,7 +14,7 @@ use Rattle.runs.specs.Times.View.{View, Ledger}
 use Rattle.runs.specs.Times.Clauses.{Below, QuietMail, Quiet, Holds}
 use Rattle.runs.proofs.Times.ClausesLaws.{binding_no_refresh, call_says, late_says}
 use Rattle.runs.proofs.Kept.Round.{holds_after_restated}
-use Rattle.runs.proofs.Kept.Closing.{closing_refresh, closing_making, closing_binding, closing_no_call}
+use Rattle.runs.proofs.Kept.Answered.{closing_refresh, closing_making, closing_binding, closing_no_call}
 
 -- ---- statuses
 

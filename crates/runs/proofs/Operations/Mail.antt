@@ -1,7 +1,7 @@
 -- A message waits as it was sent, of any sound tables:
 -- a full message slot is left as it was by every step but its own accepted delivery and its own accepted drop.
 -- So what an invoke says is what is done where its call is delivered, whatever comes between. Assumes nothing.
-use Rattle.std.specs.Prelude.{ℕ, ◌%◌, ◌<◌, ◌≤◌, ◌≡◌, refl, ◌≢◌, ◌⊎◌, Bool, true, false, List, [], ◌∷◌}
+use Rattle.std.specs.Prelude.{ℕ, ◌%◌, ◌<◌, ◌≤◌, ◌≡◌, refl, ◌≢◌, ◌⊎◌, Bool, true, false}
 use Rattle.std.proofs.Common.{arith, sym, ◌∙◌, subst, true≢false, ltb-false, eq-eqb}
 use Rattle.std.proofs.Math.Path.{ap}
 use Rattle.std.proofs.Math.Logic.{⊎_elim, inl, inr}
@@ -17,14 +17,13 @@ use Rattle.rules.proofs.RangesLaws.{placed_places, placed_trip}
 use Rattle.rules.specs.StoredLaws.{turn_stored_lem, message_after_stored, message_after_stored_other}
 use Rattle.rules.proofs.RefusedLaws.{refused_leaves}
 use Rattle.rules.proofs.SettledLaws.{delivered_named}
-use Rattle.rules.specs.Runs.{run_of}
 use Rattle.rules.proofs.Views.{Post, is_called, Calling, deed_of}
 use Rattle.runs.specs.Types.{Body, Message, Tables, Step, Outcome, Seen}
 use Rattle.runs.specs.Walk.Put.{same_or_other}
 use Rattle.runs.specs.Walk.Seen.{places_at, seen_at}
-use Rattle.runs.proofs.Walk.Sound.{Sound, sound_step, sound_step_has}
+use Rattle.runs.proofs.Walk.Sound.{Sound, sound_step_has}
 use Rattle.runs.proofs.Walk.Clocks.{turned_message}
-use Rattle.runs.specs.Operations.Definitions.{DoneAsSaid, InvokedInto, TakenUp}
+use Rattle.runs.specs.Operations.Definitions.{DoneAsSaid, InvokedInto}
 use Rattle.runs.proofs.Operations.Single.{decision_at}
 use Rattle.runs.proofs.Operations.Invoked.{invoked_answers, invoked_says}
 
@@ -178,33 +177,6 @@ call_was_invoked t m z = comes_from t m z is_called (λ step. InvokedInto t step
           answers = invoked_answers t h site b k u z a ∙ sym at;
         })
     by step (Calling.Stands _ stands) a at c = inl (stands _ (seen_at t step) c)
-
--- ---- a list of steps
-
--- so a message waits as it was sent, until it is delivered or dropped
-pub mail_waits :
-    (t : Tables) (m : ℕ) (ss : List Step) → Sound t → is_empty (message_at t m).body ≡ false → (message_at (run_of t ss) m ≡ message_at t m) ⊎ TakenUp t m ss
-unfolding run_of
-mail_waits t m [] z full = inl refl
-mail_waits t m (s ∷ ss) z full =
-    ⊎_elim
-    (λ same.
-    ⊎_elim
-    (λ e. inl (e ∙ same))
-    (λ g.
-    inr
-    (record {
-      first = s ∷ g.first;
-      step = g.step;
-      rest = g.rest;
-      all = ap (λ (x : List Step). s ∷ x) g.all;
-      waits = g.waits ∙ same;
-      accepted = g.accepted;
-      own = g.own;
-    }))
-    (mail_waits (step_of t s).tables m ss (sound_step t s z) (ap (λ (x : Message). is_empty x.body) same ∙ full)))
-    (λ own. inr (record { first = []; step = s; rest = ss; all = refl; waits = refl; accepted = own.0; own = own.1 }))
-    (mail_stays t s m z full)
 
 -- ---- what is sent is what is done
 

@@ -18,7 +18,7 @@ use Rattle.runs.proofs.Walk.Clocks.{clock_adds}
 use Rattle.runs.specs.Times.View.{Ledger, view_of}
 use Rattle.runs.specs.Times.Clauses.{Quiet, Holds}
 use Rattle.runs.proofs.Times.Store.{own_body}
-use Rattle.runs.proofs.Kept.Closing.{closing_binding}
+use Rattle.runs.proofs.Kept.Answered.{closing_binding}
 use Rattle.runs.proofs.Holders.HeldStore.{Held}
 use Rattle.runs.specs.Operations.Definitions.{mail_named, calls_for, operates, said_quiesce, operated_at, StillOpen, SweptAt}
 use Rattle.runs.proofs.Operations.Delivered.{delivered_after_sent}

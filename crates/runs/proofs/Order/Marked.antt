@@ -21,7 +21,7 @@ use Rattle.runs.proofs.Walk.Clocks.{head_adds}
 use Rattle.runs.specs.Times.View.{View, Ledger, ledger_noted}
 use Rattle.runs.specs.Times.Clauses.{Holds, sent_figures}
 use Rattle.runs.proofs.Times.Store.{left_view}
-use Rattle.runs.proofs.Kept.Closing.{closing_binding}
+use Rattle.runs.proofs.Kept.Answered.{closing_binding}
 use Rattle.runs.proofs.Kept.Masks.{answered_other, nobody_answers}
 use Rattle.runs.specs.Moves.Definitions.{is_answer, PlainMail, OpenedFrom, Move, Turn}
 use Rattle.runs.proofs.Moves.Laws.{sites_after, made_at_unseen, turned_unmade, quiesce_after, is_crash, quiesce_turned, clock_after_move}

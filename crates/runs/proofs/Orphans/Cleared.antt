@@ -2,7 +2,7 @@
 -- A station whose clock stands at 2,000,000,000 accepts no step any more, so that no sweep is accepted there and demand 3 is empty;
 -- it is the same with one that is down at 1,999,999,999, since a recover uses up the last. So this law leaves those two out.
 -- It is of stations whose time passes by ticks, which is the only manner today: a station without ticks is not meant.
--- First what the law says, in lists of steps and tables; then the law and its proof. Assumes nothing.
+-- What the law says, in lists of steps and tables, stands in specs/Orphans/Clears; here are the law and its proof. Assumes nothing.
 use Rattle.std.specs.Prelude.{ℕ, zero, suc, ◌+◌, ◌*◌, ◌-◌, ◌<◌, ◌≤◌, min, ◌≡◌, ◌⊎◌, false, leb, eqb}
 use native.Mathlib.Omega.{arith}
 use Rattle.std.proofs.Math.Path.{refl}
@@ -31,33 +31,8 @@ use Rattle.runs.proofs.Walk.Clocks.{clock_not_back}
 use Rattle.runs.proofs.Walk.Taken.{in_range_step, tick_accepted, tick_leaves, recover_accepted, recover_leaves, sweep_accepted}
 use Rattle.runs.proofs.Walk.Counted.{history_accepted, history_refused}
 use Rattle.runs.specs.Orphans.Orphans.{NothingLeft, began_commit, is_retired, retires, visit_latest, mail_latest, latest}
+use Rattle.runs.specs.Orphans.Clears.{AllAccepted, ticks_at, Clears}
 use Rattle.runs.proofs.Orphans.DemandThree.{demand_three}
-
--- ---- what is said
-
--- every step of the list is accepted, each on the tables that the one before left
-unfoldable pub AllAccepted : Tables → List Step → Type 0
-AllAccepted t [] = Unit {0}
-AllAccepted t (s ∷ ss) = (is_accepted (step_of t s).answer ≡ true) × AllAccepted (step_of t s).tables ss
-
--- ticks of a station, one by each of these numbers
-unfoldable pub ticks_at : ℕ → List ℕ → List Step
-ticks_at site [] = []
-ticks_at site (n ∷ ns) = Step.Tick site n ∷ ticks_at site ns
-
--- these recovers, then ticks by these numbers, then one sweep
-abbrev pub clearing : ℕ → List Step → List ℕ → List Step
-clearing site recovers ticks = recovers ++ (ticks_at site ticks ++ (Step.Sweep site ∷ []))
-
--- At most one recover of the station, at most 1,000 ticks of it and one sweep of it, in this order and all accepted from these tables;
--- after them the passage slot has no visit there, and holds no object that stands there
-pub record Clears (t : Tables) (site slot : ℕ) : Type 0 where
-  pub recovers : List Step
-  pub one_recover : (recovers ≡ []) ⊎ (recovers ≡ Step.Recover site ∷ [])
-  pub ticks : List ℕ
-  pub few_ticks : length ticks ≤ 1000
-  pub accepted : AllAccepted t (clearing site recovers ticks)
-  pub cleared : NothingLeft (run_of t (clearing site recovers ticks)) slot site
 
 -- ---- T is at most 1,000,000,000
 

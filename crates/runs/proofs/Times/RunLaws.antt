@@ -10,7 +10,7 @@ use Rattle.runs.specs.Times.View.{Ledger, view_of}
 use Rattle.runs.specs.Times.Clauses.{Below, Quiet, Holds}
 use Rattle.runs.proofs.Times.ClausesLaws.{call_says}
 use Rattle.runs.proofs.Times.Store.{own_mail, own_body}
-use Rattle.runs.proofs.Kept.Closing.{closing_refresh, closing_binding}
+use Rattle.runs.proofs.Kept.Answered.{closing_refresh, closing_binding}
 use Rattle.runs.proofs.Kept.Calls.{never_twice}
 use Rattle.runs.proofs.Times.Ledgers.{ledgers_of, kept_run}
 

@@ -1,18 +1,11 @@
 -- The time rule. In every run from the start, no quiesce time of a passage at any station exceeds any release time of that passage at any station.
 -- Nothing is asked of the steps: any numbers, refused ones, losses, crashes, slots used again. Assumes nothing.
-use Rattle.std.specs.Prelude.{ℕ, ◌<◌, ◌≤◌, ◌≡◌, true, List}
-use Rattle.rules.specs.Tables.{visit_at}
+use Rattle.std.specs.Prelude.{ℕ, List}
 use Rattle.rules.specs.Runs.{Started, run_of, run_records_of}
 use Rattle.runs.specs.Types.{Tables, Step}
+use Rattle.runs.specs.Times.Rule.{TimeRule}
 use Rattle.runs.proofs.Walk.Steps.{steps_read, records_are_steps}
 use Rattle.runs.proofs.Times.Ledgers.{kept_run}
-
--- for every slot, and every two sites with a visit of that slot: the quiesce time of the one is at most the release time of the other
-abbrev pub TimeRule : Tables → Type 0
-TimeRule t =
-    (slot one other : ℕ) → slot < 16 → one < 8 → other < 8
-    → (visit_at t one slot).there ≡ true → (visit_at t other slot).there ≡ true
-    → (visit_at t one slot).quiesce ≤ (visit_at t other slot).release
 
 -- whatever steps were run
 pub time_rule : {t₀ : Tables} → Started t₀ → (steps : List Step) → TimeRule (run_of t₀ steps)

@@ -11,7 +11,8 @@ use Rattle.rules.specs.Sheet.{sheet_answer, sheet_records, record_at, records_up
 use Rattle.rules.specs.Listing.{line_of, printed_up_to, listing_of}
 use Rattle.rules.proofs.ListingLaws.{printed_is_run}
 use Rattle.runs.specs.Types.{Tables, Answer}
-use Rattle.runs.proofs.Times.TimeRule.{TimeRule, time_rule_records}
+use Rattle.runs.specs.Times.Rule.{TimeRule}
+use Rattle.runs.proofs.Times.TimeRule.{time_rule_records}
 
 -- the tables behind a listing are those of a run (`printed_is_run`), so the time rule holds at every line of it
 pub time_rule_listing : (part : List ℕ) (n : ℕ) → TimeRule (printed_up_to part n).tables

@@ -22,7 +22,7 @@ use Rattle.runs.proofs.Walk.Steps.{run_on}
 use Rattle.runs.specs.Times.View.{Ledger, view_of}
 use Rattle.runs.proofs.Times.Ledgers.{ledgers_of}
 use Rattle.runs.proofs.Times.Store.{own_body}
-use Rattle.runs.proofs.Kept.Closing.{closing_no_call}
+use Rattle.runs.proofs.Kept.Answered.{closing_no_call}
 use Rattle.runs.proofs.Holders.Holders.{held_run, held_below}
 use Rattle.runs.specs.Orphans.Widths.{rest_of}
 use Rattle.runs.proofs.Orphans.Rests.{standing, standing_unheld}

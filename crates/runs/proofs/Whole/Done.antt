@@ -26,12 +26,14 @@ use Rattle.runs.proofs.Times.Store.{left_view, own_mail, own_body, noted_same}
 use Rattle.runs.proofs.Times.Ledgers.{head_ledgers, ledgers_of}
 use Rattle.runs.proofs.Fits.Life.{free_says}
 use Rattle.runs.proofs.Kept.Touched.{sum_over_put}
-use Rattle.runs.proofs.Kept.Closing.{call_places, closing_no_call, closing_none_lost}
+use Rattle.runs.proofs.Kept.Closing.{call_places}
+use Rattle.runs.proofs.Kept.Answered.{closing_no_call, closing_none_lost}
 use Rattle.runs.specs.Orphans.Orphans.{is_retired}
 use Rattle.runs.specs.Operations.Definitions.{SaysCall, TakenUp}
 use Rattle.runs.proofs.Operations.Single.{decision_accepted, single_head}
 use Rattle.runs.proofs.Operations.Invoked.{invoked_says}
-use Rattle.runs.proofs.Operations.Mail.{mail_waits, delivered_as_sent}
+use Rattle.runs.proofs.Operations.Mail.{delivered_as_sent}
+use Rattle.runs.proofs.Operations.Waits.{mail_waits}
 use Rattle.runs.proofs.Commits.Pledged.{Pledged, pledged_run, pledged_after_head}
 use Rattle.runs.proofs.Commits.Since.{own_leads, Carried, not_retired, run_carried}
 use Rattle.runs.proofs.Commits.Over.{NoWay, committed_by_closing}

@@ -10,26 +10,25 @@ use mathlib.Core.List.{List, [], ◌∷◌, ◌++◌}
 use Rattle.rules.specs.LoopsLaws.{either}
 use Rattle.rules.specs.Tables.{object_at, passage_at, visit_at, object_site}
 use Rattle.rules.specs.Answers.{is_accepted}
-use Rattle.rules.specs.Parts.{is_unheld, is_held_by, unheld}
+use Rattle.rules.specs.Parts.{is_held_by, unheld}
 use Rattle.rules.proofs.PartsLaws.{unheld_not_held, let_go_unheld}
 use Rattle.rules.specs.Machine.{step_of}
 use Rattle.rules.specs.Runs.{Started, run_of, history_of}
 use Rattle.rules.specs.Events.{is_holding}
-use Rattle.runs.specs.Types.{Status, Body, Tables, Step}
+use Rattle.runs.specs.Types.{Status, Tables, Step}
 use Rattle.runs.specs.Walk.Says.{is_binding}
 use Rattle.runs.proofs.Walk.Steps.{run_on}
 use Rattle.runs.specs.Times.View.{Ledger, view_of}
 use Rattle.runs.proofs.Times.Ledgers.{ledgers_of}
-use Rattle.runs.proofs.Kept.Closing.{closing_binding}
+use Rattle.runs.proofs.Kept.Answered.{closing_binding}
 use Rattle.runs.proofs.Holders.HeldStore.{Held}
 use Rattle.runs.proofs.Holders.Holders.{held_run, held_step, held_below}
 use Rattle.runs.specs.Orphans.Orphans.{retires, is_retired}
-use Rattle.runs.specs.Orphans.Widths.{rest_of}
 use Rattle.runs.proofs.Orphans.Rests.{standing}
 use Rattle.runs.proofs.Orphans.RestSteps.{standing_after_step}
-use Rattle.runs.proofs.Orphans.Undone.{rest_is_standing, value_is_rest}
-use Rattle.runs.specs.Operations.Definitions.{operates, Finds}
-use Rattle.runs.proofs.Operations.Operated.{operated_below, operated_was_free_or_own, operated_is_held, operated_finds, standing_after_operated}
+use Rattle.runs.proofs.Orphans.Undone.{rest_is_standing}
+use Rattle.runs.specs.Operations.Definitions.{operates}
+use Rattle.runs.proofs.Operations.Operated.{operated_below, operated_is_held, standing_after_operated}
 use Rattle.runs.proofs.Commits.Pledged.{Pledged, pledged_after_step, pledged_run}
 use Rattle.runs.proofs.Commits.Since.{not_retired, step_carried}
 use Rattle.runs.proofs.Commits.Over.{StatusIs, NoWay, over_carries, ClosesCommit, committed_by_closing}
@@ -159,21 +158,3 @@ commit_rests_on_what_stands {t₀} fresh before s between commit p k e r not_yet
           stands = standing_after_operated (run_of t₀ before) p k s (held_run fresh before).sound e;
         }))
         (not_retired p (run_of t₀ before) s between r).1
-
--- so what a first operation of an object found is the width that stands when its passage becomes committed
-pub read_is_what_stands :
-    {t₀ : Tables} → Started t₀ → (before : List Step) (s : Step) (between : List Step) (commit : Step) (p k : ℕ)
-    → operates (run_of t₀ before) p k s ≡ true → is_holding (run_of t₀ before) p k ≡ false
-    → is_retired p (history_of (run_of t₀ before) (s ∷ between)) ≡ false
-    → (passage_at (run_of t₀ (before ++ s ∷ between)) p).status ≢ Status.Committed
-    → (passage_at (step_of (run_of t₀ (before ++ s ∷ between)) commit).tables p).status ≡ Status.Committed
-    → Finds (run_of t₀ before) s (rest_of t₀ (before ++ s ∷ between) k)
-read_is_what_stands {t₀} fresh before s between commit p k e fresh-hold r not_yet committed =
-    let z = (held_run fresh before).sound in
-    let free : is_unheld (object_at (run_of t₀ before) k) ≡ true =
-    ⊎_elim
-    (λ y. y)
-    (λ y. absurd (false≢true (sym fresh-hold ∙ y)))
-    (operated_was_free_or_own (run_of t₀ before) p k s z e) in
-    let rests = commit_rests_on_what_stands fresh before s between commit p k e r not_yet committed in
-    operated_finds (run_of t₀ before) p k s z e ∙ ap Body.Reply (value_is_rest fresh before k free ∙ sym rests.stands)
