@@ -1,12 +1,6 @@
 -- What is told of a sheet, taken or refused. Assumes nothing.
-use Prim.Native.Nat.{ℕ, ◌/◌}
-use mathlib.Core.Path.{◌≡◌, refl}
-use mathlib.Core.List.{List, [], ◌∷◌}
-use lib.ListN.{length}
-use denote.Enum.Declared.{tag_of}
-use types.Run.{OneOf, miss}
+use Rattle.std.proofs.Common.{◌/◌, ◌≡◌, ◌≢◌, refl, List, ℕ, length}
 use Rattle.rules.specs.declared.steps.SheetAnswer.{SheetAnswer}
-use Rattle.rules.specs.contracts.steps.SheetAnswer.{the_type}
 use Rattle.rules.specs.Sheet.{sheet_answer, sheet_records}
 use Rattle.words.specs.Tell.{refused_sheet, sheet_by, told_up_to, plain_up_to, sheet_told, plain_of}
 
@@ -23,21 +17,19 @@ unfolding plain_of
 plain_taken b e = rw e
 
 -- a sheet that is not taken has one line
-refused_told_by : (a : SheetAnswer) (text : List ℕ) → OneOf (1 ∷ 2 ∷ 3 ∷ 4 ∷ []) (tag_of the_type a) → refused_sheet a ≡ sheet_by a text
-refused_told_by SheetAnswer.Taken text h = absurd (miss (1 ∷ 2 ∷ 3 ∷ 4 ∷ []) 0 tt h)
+refused_told_by : (a : SheetAnswer) (text : List ℕ) → a ≢ SheetAnswer.Taken → refused_sheet a ≡ sheet_by a text
+refused_told_by SheetAnswer.Taken text h = absurd (h refl)
 refused_told_by SheetAnswer.TooLong text h = refl
 refused_told_by SheetAnswer.TooShort text h = refl
 refused_told_by SheetAnswer.BadMark text h = refl
 refused_told_by SheetAnswer.BadDistance text h = refl
 
 pub told_refused :
-    (b : List ℕ) (a : SheetAnswer) → a ≡ sheet_answer b → OneOf (1 ∷ 2 ∷ 3 ∷ 4 ∷ []) (tag_of the_type a)
-    → refused_sheet a ≡ sheet_told b
+    (b : List ℕ) (a : SheetAnswer) → a ≡ sheet_answer b → a ≢ SheetAnswer.Taken → refused_sheet a ≡ sheet_told b
 unfolding sheet_told
 told_refused b a e h = rw (← e) (refused_told_by a _ h)
 
 pub plain_refused :
-    (b : List ℕ) (a : SheetAnswer) → a ≡ sheet_answer b → OneOf (1 ∷ 2 ∷ 3 ∷ 4 ∷ []) (tag_of the_type a)
-    → refused_sheet a ≡ plain_of b
+    (b : List ℕ) (a : SheetAnswer) → a ≡ sheet_answer b → a ≢ SheetAnswer.Taken → refused_sheet a ≡ plain_of b
 unfolding plain_of
 plain_refused b a e h = rw (← e) (refused_told_by a _ h)

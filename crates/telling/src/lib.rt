@@ -16,7 +16,7 @@ use saying::line::put_record;
 use sheet::{record_at, sheet_answer, sheet_number, sheet_records};
 
 // A phrase: how long it is, and its bytes with spaces behind them.
-#[derive(Drop)]
+#[derive(Clone, Copy)]
 struct Phrase(usize, [u8; 32]);
 
 const NO_PHRASE: Phrase = Phrase(0, [b' '; 32]);
