@@ -13,7 +13,7 @@ use telling::{tell, tell_plain};
 fn wants_plain(rt: &HostRuntime) -> bool {
     let mut word = [0u8; 7];
     match rt.arg(1, &mut word) {
-        Ok(n) => word[..n] == *b"--plain",
+        Ok(n) => n == 7 && word == *b"--plain",
         Err(_) => false,
     }
 }
