@@ -1,5 +1,5 @@
 -- Steps of messages: 3 invoke, 11 deliver, 12 drop. Assumes nothing.
--- xChecks: the refusals in their order. xDone: the answer and the records. xOf: the same, where a refusal keeps what was seen.
+-- x_checks: the refusals in their order. x_done: the answer and the records. x_of: the same, where a refusal keeps what was seen.
 use Rattle.std.specs.Prelude.{ℕ, ◌%◌, Bool, cond, not, ◌&&◌, ◌||◌, List, [], ◌∷◌, leb, ltb, eqb, get_or, set}
 use Rattle.rules.specs.Types.{Object, Figures, Status, Passage, Visit, Call, Asked, Told, Body, Message, Refusal, Answer, Check, Seen, Decision}
 use Rattle.rules.specs.Limits.{width_most, count_most, object_most}

@@ -1,5 +1,5 @@
 -- Steps of a passage's life: 2 begin, 10 abort, 16 retire. Assumes nothing.
--- xChecks: the refusals in their order. xDone: the answer and the records. xOf: the same, where a refusal keeps what was seen.
+-- x_checks: the refusals in their order. x_done: the answer and the records. x_of: the same, where a refusal keeps what was seen.
 use Rattle.std.specs.Prelude.{ℕ, ◌+◌, ◌%◌, Bool, false, not, ◌||◌, List, [], ◌∷◌, leb, ltb}
 use Rattle.rules.specs.Types.{Status, Passage, Refusal, Check, Seen, Decision}
 use Rattle.rules.specs.Limits.{slot_most}

@@ -1,5 +1,5 @@
 -- Steps of a round: 4 refresh, 5 terminate, 6 prepare, 7 ask, 8 close, 9 tell. Assumes nothing.
--- xChecks: the refusals in their order. xDone: the answer and the records. xOf: the same, where a refusal keeps what was seen.
+-- x_checks: the refusals in their order. x_done: the answer and the records. x_of: the same, where a refusal keeps what was seen.
 use Rattle.std.specs.Prelude.{ℕ, ◌+◌, ◌%◌, Bool, cond, not, ◌||◌, List, [], ◌∷◌, leb, eqb}
 use Rattle.rules.specs.Types.{Object, Kind, Phase, Round, Passage, Visit, Told, Body, Refusal, Check, Seen, Decision}
 use Rattle.rules.specs.Limits.{count_most}

@@ -1,5 +1,5 @@
 -- Steps of a station: 1 tick, 13 sweep, 14 crash, 15 recover. Assumes nothing.
--- xChecks: the refusals in their order. xDone: the answer and the records. xOf: the same, where a refusal keeps what was seen.
+-- x_checks: the refusals in their order. x_done: the answer and the records. x_of: the same, where a refusal keeps what was seen.
 use Rattle.std.specs.Prelude.{ℕ, ◌+◌, Bool, true, false, cond, not, ◌&&◌, ◌||◌, List, [], ◌∷◌, leb, ltb, eqb}
 use Rattle.rules.specs.Types.{Passage, Visit, Refusal, Check, Seen, Decision}
 use Rattle.rules.specs.Limits.{tick_most}

@@ -1,5 +1,5 @@
 -- The tables of document 01: how a place is read and stored, and what an empty one holds.
--- `pastX` is what an index past the end reads; it is never met at the lengths 8, 32, 16, 128 and 32. `noX` is an emptied place. Assumes nothing.
+-- `past_x` is what an index past the end reads; it is never met at the lengths 8, 32, 16, 128 and 32. `no_x` is an emptied place. Assumes nothing.
 use Rattle.std.specs.Prelude.{ℕ, ◌+◌, ◌*◌, ◌/◌, ◌%◌, true, false, List, [], ◌∷◌, get_or, set, replicate}
 use Rattle.rules.specs.Types.{Site, Holder, Object, Figures, Kind, Phase, Round, Status, Passage, Visit, Body, Message, Tables}
 
