@@ -1,14 +1,7 @@
 -- What is said of a request, by what was tried. Assumes nothing.
-use Prim.Native.Nat.{ℕ, ◌/◌}
-use mathlib.Core.Path.{◌≡◌, refl}
-use mathlib.Core.Bool.{true, false, ◌||◌}
-use mathlib.Core.List.{List, [], ◌∷◌}
-use lib.ListN.{length}
-use denote.Enum.Declared.{tag_of}
-use types.Run.{OneOf, miss}
+use Rattle.std.proofs.Common.{◌/◌, ◌≡◌, ◌≢◌, ◌||◌, refl, true, false, List, ℕ, length}
 use Rattle.rules.specs.declared.tables.Tables.{Tables}
 use Rattle.rules.specs.declared.steps.SheetAnswer.{SheetAnswer}
-use Rattle.rules.specs.contracts.steps.SheetAnswer.{the_type}
 use Rattle.rules.specs.Tables.{start}
 use Rattle.rules.specs.Runs.{run_records_of}
 use Rattle.rules.specs.Sheet.{sheet_answer, sheet_number, sheet_records, records_up_to}
@@ -21,8 +14,8 @@ use Rattle.clearing.specs.Clearing.{cleared_of}
 use Rattle.reporting.specs.Report.{cleared_told, objects_in, taken_by, is_too_long, report_of}
 
 -- a sheet that is not taken has one line, with its number
-refused_by_lem : (a : SheetAnswer) (text : List ℕ) → OneOf (1 ∷ 2 ∷ 3 ∷ 4 ∷ []) (tag_of the_type a) → sheet_line (sheet_number a) ≡ taken_by a text
-refused_by_lem SheetAnswer.Taken text h = absurd (miss (1 ∷ 2 ∷ 3 ∷ 4 ∷ []) 0 tt h)
+refused_by_lem : (a : SheetAnswer) (text : List ℕ) → a ≢ SheetAnswer.Taken → sheet_line (sheet_number a) ≡ taken_by a text
+refused_by_lem SheetAnswer.Taken text h = absurd (h refl)
 refused_by_lem SheetAnswer.TooLong text h = refl
 refused_by_lem SheetAnswer.TooShort text h = refl
 refused_by_lem SheetAnswer.BadMark text h = refl
@@ -40,7 +33,7 @@ module _ (text station company sheet : List ℕ) where
 
     module _ (l : (is_too_long station || is_too_long company) ≡ false) where
       pub said_refused :
-          (a : SheetAnswer) → a ≡ sheet_answer sheet → OneOf (1 ∷ 2 ∷ 3 ∷ 4 ∷ []) (tag_of the_type a)
+          (a : SheetAnswer) → a ≡ sheet_answer sheet → a ≢ SheetAnswer.Taken
           → sheet_line (sheet_number a) ≡ report_of text station company sheet
       unfolding report_of
       said_refused a e h = rw (r, l, ← e) (refused_by_lem a _ h)

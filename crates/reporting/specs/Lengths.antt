@@ -4,7 +4,7 @@ use Rattle.std.proofs.Common.{arith, ltb-false}
 use Rattle.rules.specs.LoopsLaws.{cond_keeps, or_right}
 use Rattle.rules.specs.declared.tables.Tables.{Tables}
 use Rattle.names.specs.Names.{ahead, lines_of, matches, first_match, line_for}
-use Rattle.names.specs.NamesLaws.{station_first, company_next}
+use Rattle.names.proofs.HandedBack.{station_first, company_next}
 use Rattle.clearing.specs.declared.Cleared.{Cleared}
 use Rattle.clearing.specs.Clearing.{cleared_of}
 use Rattle.clearing.specs.Ends.{Ends}
