@@ -6,9 +6,8 @@ ghost use Rattle.std.specs.Prelude.{◌≤◌, length, IfOk};
 
 use reporting::report;
 use std::env::Env;
-use std::fs;
-use std::io;
 use std::io::{ErrorKind, Read, Write};
+use std::{fs, io};
 
 // Fills the buffer as far as the input goes.
 fn fill(input: &mut fs::File, buf: &mut [u8]) -> io::Result<usize>
@@ -54,6 +53,12 @@ fn main(rt: HostRuntime) -> io::Result<()> {
     let n = take(&rt, 3, &mut sheet)?;
     // A longer one has no bytes here, and so is not read.
     let k = rt.arg(4, &mut text).unwrap_or(0);
-    let m = report(&text[..k], &station[..s], &company[..c], &sheet[..n], &mut out);
+    let m = report(
+        &text[..k],
+        &station[..s],
+        &company[..c],
+        &sheet[..n],
+        &mut out,
+    );
     rt.stdout().write_all(&out[..m])
 }
