@@ -10,7 +10,7 @@ use std::io::{ErrorKind, Read, Write};
 use std::{fs, io};
 
 // Fills the buffer as far as the input goes.
-fn fill(input: &mut fs::File, buf: &mut [u8]) -> io::Result<usize>
+fn fill(input: &mut impl Read, buf: &mut [u8]) -> io::Result<usize>
     ensures { IfOk result (λ n. n ≤ length buf.new) }
 {
     let mut done = 0;

@@ -2,7 +2,7 @@
 // Nothing else is decided here.
 #![tactic(auto)]
 
-ghost use Rattle.std.specs.Prelude.{◌≤◌, length};
+ghost use Rattle.std.specs.Prelude.{◌≤◌, length, IfOk};
 
 use std::env::Env;
 use std::io;
@@ -18,6 +18,24 @@ fn wants_plain(rt: &HostRuntime) -> bool {
     }
 }
 
+// Fills the buffer as far as the input goes.
+fn fill(input: &mut impl Read, buf: &mut [u8]) -> io::Result<usize>
+    ensures { IfOk result (λ n. n ≤ length buf.new) }
+{
+    let mut done = 0;
+    for _ in 0..u64::MAX {
+        if done == buf.len() {
+            break;
+        }
+        let n = input.read(&mut buf[done..])?;
+        if n == 0 {
+            break;
+        }
+        done += n;
+    }
+    Ok(done)
+}
+
 fn put_text(is_plain: bool, sheet: &[u8], out: &mut [u8; 524288]) -> usize
     ensures { result ≤ length out.new }
 {
@@ -30,9 +48,9 @@ fn put_text(is_plain: bool, sheet: &[u8], out: &mut [u8; 524288]) -> usize
 fn main(rt: HostRuntime) -> io::Result<()> {
     let is_plain = wants_plain(&rt);
     // One byte more than the longest sheet, so that a longer one is seen to be longer.
-    let mut sheet = Vec::new(rt.alloc());
-    rt.stdin().take(65537).read_to_end(&mut sheet)?;
+    let mut sheet = [0u8; 65537];
     let mut out = [0u8; 524288];
-    let k = put_text(is_plain, &sheet, &mut out);
+    let n = fill(&mut rt.stdin(), &mut sheet)?;
+    let k = put_text(is_plain, &sheet[..n], &mut out);
     rt.stdout().write_all(&out[..k])
 }

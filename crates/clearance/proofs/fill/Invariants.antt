@@ -3,4 +3,4 @@ use Rattle.std.proofs.Common.{◌≤◌, length}
 use Rattle.clearance.proofs.fill.Given as goal
 
 abbrev pub invariant-loop : goal.invariant-loop
-invariant-loop l = l.done ≤ length l.buf
+invariant-loop g l = l.done ≤ length l.buf
