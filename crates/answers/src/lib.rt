@@ -32,8 +32,8 @@ pub fn answer_number(a: Answer) -> u64
     ensures { result ≡ answer_number a }
 {
     match a {
-        Answer::Accepted(_) => 0,
-        Answer::Refused(refusal) => refusal_number(refusal),
+        Ok(_) => 0,
+        Err(refusal) => refusal_number(refusal),
     }
 }
 
@@ -42,7 +42,7 @@ pub fn answer_value(a: Answer) -> u64
     ensures { result ≡ answer_value a }
 {
     match a {
-        Answer::Accepted(value) => value,
-        Answer::Refused(_) => 0,
+        Ok(value) => value,
+        Err(_) => 0,
     }
 }

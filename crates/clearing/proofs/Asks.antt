@@ -1,7 +1,7 @@
 -- 3 to 5. Prepare, the questions to each station and the close: what was read stays held, and no clock comes near its end. Assumes nothing.
 use Prim.Native.Nat.{ℕ, zero, suc, ◌+◌, ◌*◌, ◌≤◌, ◌<◌}
 use native.Mathlib.Omega.{arith}
-use Rattle.std.specs.Prelude.{◌≡◌, refl, ◌≢◌, true, cond, not, List, leb, eqb, length}
+use Rattle.std.specs.Prelude.{◌≡◌, refl, ◌≢◌, true, cond, not, List, leb, eqb, length, Ok}
 use Rattle.std.proofs.Common.{sym, ap, ◌∙◌, subst, ⊎_elim, true≢false, leb-true, le-leb, ne_eqb}
 use Rattle.rules.specs.declared.tables.Kind.{Kind}
 use Rattle.rules.specs.declared.tables.Phase.{Phase}
@@ -12,7 +12,7 @@ use Rattle.rules.specs.declared.tables.Body.{Body}
 use Rattle.rules.specs.declared.tables.Message.{Message}
 use Rattle.rules.specs.declared.tables.Tables.{Tables}
 use Rattle.rules.specs.declared.steps.Step.{Step}
-use Rattle.rules.specs.declared.outcomes.Answer.{Answer}
+use Rattle.rules.specs.Types.{Answer}
 use Rattle.rules.specs.Limits.{clock_most, time_most}
 use Rattle.rules.specs.LoopsLaws.{and_right, either, none_some}
 use Rattle.rules.specs.Tables.{site_at, passage_at, message_at, object_site, slot_of}
@@ -273,7 +273,7 @@ module _ (course : Course) where
         close_commits :
             (t : Tables) (v : ℕ) → Sized t
             → ((passage_at t (slot_of h)).round.phase ≡ Phase.One → (passage_at t (slot_of h)).round.kind ≡ Kind.Prepare)
-            → (step_of t (Step.Close h)).answer ≡ Answer.Accepted v
+            → (step_of t (Step.Close h)).answer ≡ Ok v
             → (passage_at (step_of t (Step.Close h)).tables (slot_of h)).status ≡ Status.Committed
         close_commits t v z asks e =
             let c = close_effects t h v z e in

@@ -1,9 +1,9 @@
 -- A check ends in one of four ways: refused by itself, never begun, given up, committed. Assumes nothing.
-use Rattle.std.specs.Prelude.{ℕ, ◌≡◌, Bool, true, false, cond, List, length}
+use Rattle.std.specs.Prelude.{ℕ, ◌≡◌, Bool, true, false, cond, List, length, Ok, Err}
 use Rattle.std.proofs.Math.Path.{refl, ap}
 use Rattle.std.proofs.Common.{sym, ◌∙◌, subst}
 use Rattle.rules.specs.declared.tables.Tables.{Tables}
-use Rattle.rules.specs.declared.outcomes.Answer.{Answer}
+use Rattle.rules.specs.Types.{Answer}
 use Rattle.clearing.specs.declared.Way.{Way}
 use Rattle.clearing.specs.declared.OwnRefusal.{OwnRefusal}
 use Rattle.clearing.specs.declared.Verdict.{Verdict}
@@ -23,15 +23,15 @@ module _ (t : Tables) (beam margin : ℕ) (objects : List ℕ) (home slot quiesc
   last = closing t objects home slot quiesce release
 
   ends_went :
-      (a : Answer) (v : ℕ) → Fair t beam margin objects home slot quiesce release → begun.answer ≡ Answer.Accepted v → last.answer ≡ a
+      (a : Answer) (v : ℕ) → Fair t beam margin objects home slot quiesce release → begun.answer ≡ Ok v → last.answer ≡ a
       → Ends t beam margin objects home slot quiesce release (went_of beam margin objects home begun)
-  ends_went (Answer.Accepted u) v fair b e = Ends.Committed v u fair b e (rw e)
-  ends_went (Answer.Refused r) v fair b e = Ends.GivenUp v r b e (rw e)
+  ends_went (Ok u) v fair b e = Ends.Committed v u fair b e (rw e)
+  ends_went (Err r) v fair b e = Ends.GivenUp v r b e (rw e)
 
   ends_checked : (a : Answer) → Fair t beam margin objects home slot quiesce release → begun.answer ≡ a → Ends t beam margin objects home slot quiesce release (checked_of t beam margin objects home slot quiesce release)
-  ends_checked (Answer.Accepted v) fair e =
+  ends_checked (Ok v) fair e =
       subst (Ends t beam margin objects home slot quiesce release) (sym (ap (λ (a : Answer). begun_by a beam margin objects home begun) e)) (ends_went last.answer v fair e refl)
-  ends_checked (Answer.Refused r) fair e = Ends.Unbegun r e (rw e)
+  ends_checked (Err r) fair e = Ends.Unbegun r e (rw e)
 
   ends_tried :
       (b m l o w : Bool) → bad_beam beam ≡ b → bad_margin margin ≡ m → bad_list objects ≡ l → bad_object objects ≡ o
@@ -52,7 +52,7 @@ module _ (t : Tables) (beam margin : ℕ) (objects : List ℕ) (home slot quiesc
 
   -- a check that its own refusals let pass, that was begun and whose close was accepted, says "fits" exactly if every width fits, else "narrow"
   pub said_after_close :
-      (v u : ℕ) → Fair t beam margin objects home slot quiesce release → begun.answer ≡ Answer.Accepted v → last.answer ≡ Answer.Accepted u
+      (v u : ℕ) → Fair t beam margin objects home slot quiesce release → begun.answer ≡ Ok v → last.answer ≡ Ok u
       → (cleared_of t beam margin objects home slot quiesce release).verdict
       ≡ cond (is_fitting beam margin (widths_read t objects home slot quiesce release) (length objects)) Verdict.Fits Verdict.Narrow
   unfolding cleared_of

@@ -1,14 +1,14 @@
 -- What "fits" rests on: values that were all held together at the check's prepare, and a commit.
 -- What "no reading" leaves: an aborted passage, and every message as it was.
 -- Of any tables that a program can hold, reached by a run or not. Assumes nothing.
-use Rattle.std.specs.Prelude.{ℕ, zero, suc, ◌+◌, ◌≤◌, ◌<◌, ◌≡◌, refl, Bool, true, false, cond, List, eqb, length, get_or}
+use Rattle.std.specs.Prelude.{ℕ, zero, suc, ◌+◌, ◌≤◌, ◌<◌, ◌≡◌, refl, Bool, true, false, cond, List, eqb, length, get_or, Ok, Err}
 use Rattle.std.proofs.Common.{arith, sym, ap, ◌∙◌, subst, ⊎_elim, true≢false, length-set, get_or-set_same, get_or-set_other, leb-true, ltb-false}
 use Rattle.std.proofs.lemmas.Bool.{false≢true}
 use Rattle.rules.specs.declared.tables.Status.{Status}
 use Rattle.rules.specs.declared.tables.Passage.{Passage}
 use Rattle.rules.specs.declared.tables.Tables.{Tables}
 use Rattle.rules.specs.declared.steps.Step.{Step}
-use Rattle.rules.specs.declared.outcomes.Answer.{Answer}
+use Rattle.rules.specs.Types.{Answer}
 use Rattle.rules.specs.declared.outcomes.Refusal.{Refusal}
 use Rattle.rules.specs.Limits.{clock_most, time_most}
 use Rattle.rules.specs.LoopsLaws.{either, or_right, below_or_last, every_at}
@@ -91,7 +91,7 @@ module _ (course : Course) (slot : ℕ) (w : Way) (is : slot_of course.handle �
   abbrev after_abort : Tables
   after_abort = (step_of w.tables (Step.Abort h)).tables
 
-  abort_goes : (step_of w.tables (Step.Abort h)).answer ≡ Answer.Accepted 0
+  abort_goes : (step_of w.tables (Step.Abort h)).answer ≡ Ok 0
   abort_goes =
       let r : Runs course w.tables g.bound = g.running in
       let clock : (site_at w.tables course.home).clock ≤ g.bound = r.clock in
@@ -109,7 +109,7 @@ module _ (course : Course) (slot : ℕ) (w : Way) (is : slot_of course.handle �
   abbrev lost_mail : ℕ
   lost_mail = (flat_of w.step).c
 
-  drop_goes : is_step 11 w.step ≡ true → (step_of after_abort (Step.Drop lost_mail)).answer ≡ Answer.Accepted 0
+  drop_goes : is_step 11 w.step ≡ true → (step_of after_abort (Step.Drop lost_mail)).answer ≡ Ok 0
   drop_goes y =
       drop_accepted after_abort lost_mail (in_range_after_accepted w.tables (Step.Abort h) (ap is_accepted abort_goes)) (g.one y).below
       (rw abort_leaves.messages (g.one y).full)
@@ -179,7 +179,7 @@ said_fits false e = absurd (false≢true e)
 module _ (t : Tables) (beam margin : ℕ) (objects : List ℕ) (home slot quiesce release : ℕ) (storable : Storable t) where
   -- the check after an accepted begin
   going :
-      (v : ℕ) → (begun_of t home slot quiesce release).answer ≡ Answer.Accepted v
+      (v : ℕ) → (begun_of t home slot quiesce release).answer ≡ Ok v
       → let w : Way = begun_of t home slot quiesce release in
       Going (course_of t home objects w (handle_in w)) (λ (u : Tables) (x : ℕ). Between (course_of t home objects w (handle_in w)) u 0 time_most) w
   going v e =
@@ -254,7 +254,7 @@ module _ (t : Tables) (beam margin : ℕ) (objects : List ℕ) (home slot quiesc
       (step : Step) (r : Refusal) → (cleared_of t beam margin objects home slot quiesce release).verdict ≡ Verdict.NoReading step r
       → (cleared_of t beam margin objects home slot quiesce release).begun ≡ true
       → let w : Way = closing t objects home slot quiesce release in
-      (w.answer ≡ Answer.Refused r) × (w.step ≡ step) × Leaves t slot w (cleared_of t beam margin objects home slot quiesce release)
+      (w.answer ≡ Err r) × (w.step ≡ step) × Leaves t slot w (cleared_of t beam margin objects home slot quiesce release)
   no_reading_leaves step r said begun = by (ends t beam margin objects home slot quiesce release) said begun
     where
       step_in : Verdict → Step
@@ -272,7 +272,7 @@ module _ (t : Tables) (beam margin : ℕ) (objects : List ℕ) (home slot quiesc
       by :
           {c : Cleared} → Ends t beam margin objects home slot quiesce release c → c.verdict ≡ Verdict.NoReading step r → c.begun ≡ true
           → let w : Way = closing t objects home slot quiesce release in
-          (w.answer ≡ Answer.Refused r) × (w.step ≡ step) × Leaves t slot w c
+          (w.answer ≡ Err r) × (w.step ≡ step) × Leaves t slot w c
       by (Ends.Refused own e) f b = absurd (false≢true (rw e at b))
       by (Ends.Unbegun x a e) f b = absurd (false≢true (rw e at b))
       by (Ends.Committed v u fair a y e) f b =
@@ -285,7 +285,7 @@ module _ (t : Tables) (beam margin : ℕ) (objects : List ℕ) (home slot quiesc
           let g : CanGiveUp (course_of t home objects w (handle_in w)) (closing t objects home slot quiesce release) =
           (close_goes (course_of t home objects w (handle_in w)) start.home_below (going v a)).stops x y in
           let said : Verdict.NoReading (closing t objects home slot quiesce release).step x ≡ Verdict.NoReading step r = rw e at f in (
-            y ∙ ap Answer.Refused (ap refusal_in said),
+            y ∙ ap Err (ap refusal_in said),
             ap step_in said,
             gives_up (course_of t home objects w (handle_in w)) slot (closing t objects home slot quiesce release) start.slot_is g c
                 (ap (λ (c : Cleared). c.handle) e)

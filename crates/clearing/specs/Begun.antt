@@ -1,10 +1,10 @@
 -- What an accepted begin leaves of any tables that a program can hold. Assumes nothing.
-use Rattle.std.specs.Prelude.{ℕ, ◌*◌, ◌+◌, ◌≤◌, ◌<◌, ◌≡◌, refl, List}
+use Rattle.std.specs.Prelude.{ℕ, ◌*◌, ◌+◌, ◌≤◌, ◌<◌, ◌≡◌, refl, List, Ok}
 use Rattle.std.proofs.Common.{arith, sym, ap, subst}
 use Rattle.std.proofs.lemmas.Bool.{false≢true}
 use Rattle.rules.specs.declared.tables.Tables.{Tables}
 use Rattle.rules.specs.declared.steps.Step.{Step}
-use Rattle.rules.specs.declared.outcomes.Answer.{Answer}
+use Rattle.rules.specs.Types.{Answer}
 use Rattle.rules.specs.Limits.{time_most}
 use Rattle.rules.specs.Tables.{site_at, passage_at, slot_of}
 use Rattle.rules.specs.Parts.{next_clock, is_phase_one}
@@ -29,7 +29,7 @@ pub record Begins (t : Tables) (home slot : ℕ) (objects : List ℕ) (w : Way) 
   pub between : Between (course_of t home objects w h) w.tables 0 time_most
 
 pub begins :
-    (t : Tables) (home slot q r v : ℕ) (objects : List ℕ) → Storable t → (step_of t (Step.Begin home slot q r)).answer ≡ Answer.Accepted v
+    (t : Tables) (home slot q r v : ℕ) (objects : List ℕ) → Storable t → (step_of t (Step.Begin home slot q r)).answer ≡ Ok v
     → Begins t home slot objects (begun_of t home slot q r) (handle_in (begun_of t home slot q r))
 begins t home slot q r v objects z e =
     let t' : Tables = (step_of t (Step.Begin home slot q r)).tables in

@@ -1,10 +1,10 @@
 -- The clearance check, step by step, each step answered before the next. Assumes nothing.
 -- "It opens one passage, reads every object from home, commits, and says "fits" exactly if it committed
 -- and beam plus margin is at most every width that it read."
-use Rattle.std.specs.Prelude.{ℕ, zero, suc, ◌+◌, ◌%◌, Bool, true, false, cond, List, length, set, replicate}
+use Rattle.std.specs.Prelude.{ℕ, zero, suc, ◌+◌, ◌%◌, Bool, true, false, cond, List, length, set, replicate, Ok, Err}
 use Rattle.rules.specs.declared.tables.Tables.{Tables}
 use Rattle.rules.specs.declared.steps.Step.{Step}
-use Rattle.rules.specs.declared.outcomes.Answer.{Answer}
+use Rattle.rules.specs.Types.{Answer}
 use Rattle.rules.specs.declared.outcomes.Outcome.{Outcome}
 use Rattle.rules.specs.declared.outcomes.Refusal.{Refusal}
 use Rattle.rules.specs.Loops.{one_if}
@@ -145,9 +145,9 @@ committed beam margin widths count h t =
 
 -- by the answer of the close, or of the step that was refused before it
 abbrev pub ended_by : Answer → ℕ → ℕ → List ℕ → ℕ → List ℕ → ℕ → ℕ → Way → Cleared
-ended_by (Answer.Accepted v) beam margin objects home widths read h w =
+ended_by (Ok v) beam margin objects home widths read h w =
     committed beam margin widths (length objects) h (tells_up_to h home objects w.tables 8)
-ended_by (Answer.Refused refusal) beam margin objects home widths read h w =
+ended_by (Err refusal) beam margin objects home widths read h w =
     no_reading true h read w.step refusal (given_up h w)
 
 abbrev pub ended_of : ℕ → ℕ → List ℕ → ℕ → List ℕ → ℕ → ℕ → Way → Cleared
@@ -162,8 +162,8 @@ went_of beam margin objects home w =
 
 -- by begin's answer: "nothing is aborted; the slot may be another's passage"
 abbrev pub begun_by : Answer → ℕ → ℕ → List ℕ → ℕ → Way → Cleared
-begun_by (Answer.Accepted v) beam margin objects home w = went_of beam margin objects home w
-begun_by (Answer.Refused refusal) beam margin objects home w = no_reading false 0 0 w.step refusal w.tables
+begun_by (Ok v) beam margin objects home w = went_of beam margin objects home w
+begun_by (Err refusal) beam margin objects home w = no_reading false 0 0 w.step refusal w.tables
 
 -- 1. "begin; h is its value"
 abbrev pub begun_of : Tables → ℕ → ℕ → ℕ → ℕ → Way

@@ -1,6 +1,6 @@
 -- The check computed on two widths, one at home and one at a station that is asked, so that each of its words is seen to be said. Assumes nothing.
-use Rattle.std.specs.Prelude.{[], ◌∷◌, ℕ, set}
-use Rattle.rules.specs.declared.tables.Holder.{Holder}
+use Rattle.std.specs.Prelude.{[], ◌∷◌, ℕ, set, None}
+use Rattle.rules.specs.Types.{Holder}
 use Rattle.rules.specs.declared.tables.Tables.{Tables}
 use Rattle.rules.specs.Tables.{start}
 use Rattle.clearing.specs.declared.Verdict.{Verdict}
@@ -12,7 +12,7 @@ two_widths holder =
     record {
       sites = start.sites;
       objects =
-          set (set start.objects 0 (record { value = 13000; holder = Holder.Nobody; before = 0 })) 4
+          set (set start.objects 0 (record { value = 13000; holder = None; before = 0 })) 4
           (record { value = 12500; holder = holder; before = 0 });
       passages = start.passages;
       visits = start.visits;

@@ -1,7 +1,7 @@
 -- What holds of the tables between two steps of a check, and that each step keeps it or is refused on tables on which the check can be given up.
 -- The idea: a read is accepted only before a quiesce time, so the clocks of the list's stations are far from their end;
 -- and the check has at most one message in flight. Assumes nothing.
-use Rattle.std.specs.Prelude.{ℕ, suc, ◌%◌, ◌≤◌, ◌<◌, ◌≡◌, refl, ◌≢◌, true, false, List, eqb, get_or}
+use Rattle.std.specs.Prelude.{ℕ, suc, ◌%◌, ◌≤◌, ◌<◌, ◌≡◌, refl, ◌≢◌, true, false, List, eqb, get_or, Ok, Err}
 use Rattle.std.proofs.Common.{arith, sym, ap, ◌∙◌, subst, ⊎_elim, true≢false, eqb-true}
 use Rattle.std.proofs.lemmas.Bool.{false≢true, eqb-false}
 use Rattle.rules.specs.declared.tables.Site.{Site}
@@ -12,7 +12,7 @@ use Rattle.rules.specs.declared.tables.Passage.{Passage}
 use Rattle.rules.specs.declared.tables.Message.{Message}
 use Rattle.rules.specs.declared.tables.Tables.{Tables}
 use Rattle.rules.specs.declared.steps.Step.{Step}
-use Rattle.rules.specs.declared.outcomes.Answer.{Answer}
+use Rattle.rules.specs.Types.{Answer}
 use Rattle.rules.specs.declared.outcomes.Refusal.{Refusal}
 use Rattle.rules.specs.declared.looking.Places.{Places}
 use Rattle.rules.specs.Limits.{clock_most, time_most, width_most}
@@ -165,32 +165,32 @@ module _ (course : Course) where
 
   -- a check under way: it goes on with what P says of its tables and its last value, or it can be given up
   pub record Going (P : Tables → ℕ → Type 0) (w : Way) : Type 0 where
-    pub goes : (v : ℕ) → w.answer ≡ Answer.Accepted v → P w.tables v
-    pub stops : (r : Refusal) → w.answer ≡ Answer.Refused r → CanGiveUp w
+    pub goes : (v : ℕ) → w.answer ≡ Ok v → P w.tables v
+    pub stops : (r : Refusal) → w.answer ≡ Err r → CanGiveUp w
 
   -- ---- one step after the other
 
   -- the slot that a step answered is the one that the next ones name
-  mail_is : (w : Way) (v : ℕ) → w.answer ≡ Answer.Accepted v → v < 32 → mail_in w ≡ v
+  mail_is : (w : Way) (v : ℕ) → w.answer ≡ Ok v → v < 32 → mail_in w ≡ v
   mail_is w v e l = rw e (omega arith)
 
   pub going_on :
       {P Q : Tables → ℕ → Type 0} (w : Way) (s : Step) → Going P w
-      → ((v : ℕ) → w.answer ≡ Answer.Accepted v → P w.tables v → Going Q (made w.tables s))
+      → ((v : ℕ) → w.answer ≡ Ok v → P w.tables v → Going Q (made w.tables s))
       → Going Q (then_made w s)
   going_on {P} {Q} w s g next = by w.answer refl
     where
       by : (a : Answer) → w.answer ≡ a → Going Q (then_made w s)
-      by (Answer.Accepted v) e = rw e (next v e (g.goes v e))
-      by (Answer.Refused r) e =
+      by (Ok v) e = rw e (next v e (g.goes v e))
+      by (Err r) e =
           subst (Going Q) (stays e) (record { goes = λ v y. absurd (false≢true (ap is_accepted (sym e ∙ y))); stops = g.stops })
         where
-          stays : w.answer ≡ Answer.Refused r → w ≡ then_made w s
+          stays : w.answer ≡ Err r → w ≡ then_made w s
           stays e = rw e
 
   pub going_as :
       {P Q : Tables → ℕ → Type 0} (w : Way) → Going P w
-      → ((v : ℕ) → w.answer ≡ Answer.Accepted v → P w.tables v → Q w.tables v)
+      → ((v : ℕ) → w.answer ≡ Ok v → P w.tables v → Q w.tables v)
       → Going Q w
   going_as w g f = record { goes = λ v e. f v e (g.goes v e); stops = g.stops }
 
@@ -211,12 +211,12 @@ module _ (course : Course) where
       (λ v e. returns there.tables (mail_in sent))
 
   -- a step that was refused has left the tables
-  left_as_was : (t : Tables) (s : Step) (r : Refusal) → (step_of t s).answer ≡ Answer.Refused r → t ≡ (step_of t s).tables
+  left_as_was : (t : Tables) (s : Step) (r : Refusal) → (step_of t s).answer ≡ Err r → t ≡ (step_of t s).tables
   left_as_was t s r e = sym (refused_leaves t s (ap is_accepted e))
 
   pub stops_between :
       (t : Tables) (n c : ℕ) (s : Step) (r : Refusal) → Between t n c → c < clock_most → is_step 11 s ≡ false
-      → (step_of t s).answer ≡ Answer.Refused r
+      → (step_of t s).answer ≡ Err r
       → CanGiveUp (made t s)
   stops_between t n c s r b l k e =
       let q : t ≡ (step_of t s).tables = left_as_was t s r e in
@@ -230,7 +230,7 @@ module _ (course : Course) where
 
   pub stops_in_flight :
       {Says : Message → Type 0} (t : Tables) (m n c : ℕ) (r : Refusal) → InFlight t m n c Says → c < clock_most
-      → (step_of t (Step.Deliver m)).answer ≡ Answer.Refused r
+      → (step_of t (Step.Deliver m)).answer ≡ Err r
       → CanGiveUp (made t (Step.Deliver m))
   stops_in_flight t m n c r f l e =
       let q : t ≡ (step_of t (Step.Deliver m)).tables = left_as_was t (Step.Deliver m) r e in

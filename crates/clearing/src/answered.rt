@@ -13,8 +13,8 @@ fn value_in(w: Way) -> u64
 {
     let answer = w.answer;
     match answer {
-        Answer::Accepted(value) => value,
-        Answer::Refused(_) => 0,
+        Ok(value) => value,
+        Err(_) => 0,
     }
 }
 
@@ -42,7 +42,7 @@ pub(crate) fn one_if_accepted(w: Way) -> usize
 {
     let answer = w.answer;
     match answer {
-        Answer::Accepted(_) => 1,
-        Answer::Refused(_) => 0,
+        Ok(_) => 1,
+        Err(_) => 0,
     }
 }

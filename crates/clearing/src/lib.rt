@@ -86,8 +86,8 @@ fn then_make(w: Way, s: Step) -> Way
     let answer = w.answer;
     let tables = w.tables;
     match answer {
-        Answer::Accepted(_) => make(tables, s),
-        Answer::Refused(_) => w,
+        Ok(_) => make(tables, s),
+        Err(_) => w,
     }
 }
 
@@ -288,11 +288,11 @@ fn end(
     let tables = w.tables;
     let last = w.step;
     match answer {
-        Answer::Accepted(_) => {
+        Ok(_) => {
             let told = tell_all(h, home, objects, tables);
             commit(beam, margin, widths, objects.len(), h, told)
         }
-        Answer::Refused(refusal) => no_reading(true, h, read, last, refusal, give_up(h, w)),
+        Err(refusal) => no_reading(true, h, read, last, refusal, give_up(h, w)),
     }
 }
 
@@ -335,8 +335,8 @@ fn check(
     let answer = begun.answer;
     let tables = begun.tables;
     match answer {
-        Answer::Accepted(_) => go(beam, margin, objects, home, begun),
-        Answer::Refused(refusal) => no_reading(false, 0, 0, first, refusal, tables),
+        Ok(_) => go(beam, margin, objects, home, begun),
+        Err(refusal) => no_reading(false, 0, 0, first, refusal, tables),
     }
 }
 

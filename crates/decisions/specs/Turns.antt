@@ -1,6 +1,6 @@
 -- What a trip through a site's slots counts. Assumes nothing.
 use Rattle.std.specs.Prelude.{ℕ}
-use Rattle.rules.specs.declared.outcomes.Answer.{Answer}
+use Rattle.rules.specs.Types.{Answer}
 use Rattle.rules.specs.declared.looking.Trip.{Trip}
 use Rattle.rules.specs.Answers.{answer_value}
 

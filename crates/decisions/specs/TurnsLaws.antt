@@ -1,10 +1,10 @@
 -- Laws of a trip through a site's slots: what is seen of tables in range is sane, a turn counts at most one, and a trip counts from 0. Assumes nothing.
-use Rattle.std.specs.Prelude.{ℕ, ◌+◌, ◌≤◌, ◌≡◌, refl, Bool, true, false, List, [], ◌∷◌}
+use Rattle.std.specs.Prelude.{ℕ, ◌+◌, ◌≤◌, ◌≡◌, refl, Bool, true, false, List, [], ◌∷◌, Ok, Err}
 use Rattle.std.proofs.Common.{arith, le_refl, ⊎_elim}
 use Rattle.rules.specs.declared.tables.Tables.{Tables}
 use Rattle.rules.specs.declared.steps.Step.{Step}
-use Rattle.rules.specs.declared.outcomes.Answer.{Answer}
-use Rattle.rules.specs.declared.outcomes.Check.{Check}
+use Rattle.rules.specs.Types.{Answer}
+use Rattle.rules.specs.Types.{Check}
 use Rattle.rules.specs.declared.outcomes.Outcome.{Outcome}
 use Rattle.rules.specs.declared.looking.Places.{Places}
 use Rattle.rules.specs.declared.looking.Trip.{Trip}
@@ -31,8 +31,8 @@ one_if_most true = le_refl 1
 one_if_most false = omega arith
 
 counted_most : (a : Answer) (b : Bool) (n : ℕ) → answer_value a ≤ n → answer_value (count_one a b) ≤ n + 1
-counted_most (Answer.Accepted v) b n h = let k : one_if b ≤ 1 = one_if_most b in omega arith
-counted_most (Answer.Refused r) b n h = omega arith
+counted_most (Ok v) b n h = let k : one_if b ≤ 1 = one_if_most b in omega arith
+counted_most (Err r) b n h = omega arith
 
 pub turn_counts : (trip : Trip) (slot : ℕ) (o : Outcome) → trip_value trip o.answer ≤ slot → trip_value trip (turn_of trip slot o).answer ≤ slot + 1
 unfolding turn_of

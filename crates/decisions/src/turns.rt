@@ -23,8 +23,8 @@ fn count_one(answer: Answer, b: bool) -> Answer
     ensures { result ≡ count_one answer b }
 {
     match answer {
-        Answer::Accepted(v) => Answer::Accepted(counted(v, b)),
-        Answer::Refused(refusal) => Answer::Refused(refusal),
+        Ok(v) => Ok(counted(v, b)),
+        Err(refusal) => Err(refusal),
     }
 }
 
@@ -80,8 +80,8 @@ fn sixteen_if_accepted(answer: Answer) -> usize
     ensures { result ≡ turn_count (Trip.Sweep 0) answer }
 {
     match answer {
-        Answer::Accepted(_) => 16,
-        Answer::Refused(_) => 0,
+        Ok(_) => 16,
+        Err(_) => 0,
     }
 }
 

@@ -31,7 +31,7 @@ pub fn list(sheet: &[u8], out: &mut [u8; 262144]) -> usize
     ensures { Puts out.old 0 (listing_of sheet.now) out.new result × (result ≤ length out.new) }
 {
     let answer = sheet_answer(sheet);
-    let SheetAnswer::Taken = answer else {
+    let Ok(()) = answer else {
         return put_sheet_line(out, 0, sheet_number(answer));
     };
     let part = sheet_records(sheet);

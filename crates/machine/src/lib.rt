@@ -18,7 +18,7 @@ fn out_of_range(t: Tables) -> Outcome
     ensures { result ≡ refused_all t }
 {
     Outcome {
-        answer: Answer::Refused(Refusal::OutOfRange),
+        answer: Err(Refusal::OutOfRange),
         tables: t,
     }
 }

@@ -252,10 +252,10 @@ pub(crate) fn record_in_range(t: Tables, bytes: [u8; 16]) -> Outcome
 {
     let reading = read_record(bytes);
     match reading {
-        Reading::Nothing => Outcome {
-            answer: Answer::Refused(Refusal::NoStep),
+        None => Outcome {
+            answer: Err(Refusal::NoStep),
             tables: t,
         },
-        Reading::Known(step) => step_in_range(t, step),
+        Some(step) => step_in_range(t, step),
     }
 }

@@ -34,7 +34,7 @@ fn odd_holder() -> Tables {
     let mut t = start();
     t.objects[31] = Object {
         value: 0,
-        holder: Holder::Slot(16),
+        holder: Some(16),
         before: 0,
     };
     t

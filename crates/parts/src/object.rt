@@ -2,15 +2,15 @@
 ghost use Rattle.std.specs.Prelude.{◌≡◌};
 ghost use Rattle.rules.specs.Parts.{is_slot, is_held_by_other, unheld, taken, operated, freed, restored, each_of, told_objects};
 
-use rules::tables::{Call, Holder, Object, Told};
+use rules::tables::{Call, Object, Told};
 
 // The holder alone is handed over: a whole object would be copied in every turn of a sweep.
-fn is_slot(slot: u8, holder: Holder) -> bool
+fn is_slot(slot: u8, holder: Option<u8>) -> bool
     ensures { result ≡ is_slot slot holder }
 {
     match holder {
-        Holder::Nobody => false,
-        Holder::Slot(k) => k == slot,
+        None => false,
+        Some(k) => k == slot,
     }
 }
 
@@ -19,8 +19,8 @@ pub fn is_held_by_other(slot: u8, o: Object) -> bool
 {
     let holder = o.holder;
     match holder {
-        Holder::Nobody => false,
-        Holder::Slot(k) => !(k == slot),
+        None => false,
+        Some(k) => !(k == slot),
     }
 }
 
@@ -30,12 +30,12 @@ pub fn taken(slot: u8, o: Object) -> Object
 {
     let holder = o.holder;
     match holder {
-        Holder::Nobody => Object {
+        None => Object {
             value: o.value,
-            holder: Holder::Slot(slot),
+            holder: Some(slot),
             before: o.value,
         },
-        Holder::Slot(_) => o,
+        Some(_) => o,
     }
 }
 
@@ -60,7 +60,7 @@ pub fn unheld(value: u32) -> Object
 {
     Object {
         value: value,
-        holder: Holder::Nobody,
+        holder: None,
         before: 0,
     }
 }

@@ -3,18 +3,27 @@
 ghost use Rattle.std.specs.Prelude.{max, ◌≡◌};
 ghost use Rattle.rules.specs.Sane.{Sane};
 ghost use Rattle.rules.specs.Calls.{mail_clock, mail_slot, at_home};
-ghost use Rattle.rules.specs.Seen.{left_site};
+ghost use Rattle.rules.specs.Seen.{at_clock, left_site};
 
+use crate::visit::clock_to;
 use rules::looking::Seen;
 use rules::tables::Site;
+
+// What was seen, with its site's clock moved to this one.
+pub fn at_clock(seen: Seen, clock: u64) -> Seen
+    ensures { result ≡ at_clock seen clock }
+{
+    Seen {
+        site: clock_to(seen.site, clock),
+        ..seen
+    }
+}
 
 // What was seen, with another site.
 pub fn left_site(seen: Seen, site: Site) -> Seen
     ensures { result ≡ left_site seen site }
 {
-    let mut left = seen;
-    left.site = site;
-    left
+    Seen { site, ..seen }
 }
 
 // The later of two clocks.

@@ -25,8 +25,8 @@ fn holder_in_range(o: Object) -> bool
 {
     let holder = o.holder;
     match holder {
-        Holder::Nobody => true,
-        Holder::Slot(p) => p <= SLOT_MOST,
+        None => true,
+        Some(p) => p <= SLOT_MOST,
     }
 }
 

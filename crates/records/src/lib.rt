@@ -263,10 +263,10 @@ fn step_of_fields(f: Fields) -> Reading
 {
     if is_code(f.code) {
         if fields_fit(f) {
-            return Reading::Known(step_of_code(f));
+            return Some(step_of_code(f));
         }
     }
-    Reading::Nothing
+    None
 }
 
 // The step that these bytes stand for, or none; a step that is read writes as these bytes.

@@ -1,7 +1,7 @@
 -- What is said of a request, by what was tried. Assumes nothing.
-use Rattle.std.proofs.Common.{◌/◌, ◌≡◌, ◌≢◌, ◌||◌, refl, true, false, List, ℕ, length}
+use Rattle.std.proofs.Common.{◌/◌, ◌≡◌, ◌≢◌, ◌||◌, refl, true, false, List, ℕ, length, Ok, Err}
 use Rattle.rules.specs.declared.tables.Tables.{Tables}
-use Rattle.rules.specs.declared.steps.SheetAnswer.{SheetAnswer}
+use Rattle.rules.specs.Types.{SheetAnswer, SheetRefusal}
 use Rattle.rules.specs.Tables.{start}
 use Rattle.rules.specs.Runs.{run_records_of}
 use Rattle.rules.specs.Sheet.{sheet_answer, sheet_number, sheet_records, records_up_to}
@@ -14,12 +14,12 @@ use Rattle.clearing.specs.Clearing.{cleared_of}
 use Rattle.reporting.specs.Report.{cleared_told, objects_in, taken_by, is_too_long, report_of}
 
 -- a sheet that is not taken has one line, with its number
-refused_by_lem : (a : SheetAnswer) (text : List ℕ) → a ≢ SheetAnswer.Taken → sheet_line (sheet_number a) ≡ taken_by a text
-refused_by_lem SheetAnswer.Taken text h = absurd (h refl)
-refused_by_lem SheetAnswer.TooLong text h = refl
-refused_by_lem SheetAnswer.TooShort text h = refl
-refused_by_lem SheetAnswer.BadMark text h = refl
-refused_by_lem SheetAnswer.BadDistance text h = refl
+refused_by_lem : (a : SheetAnswer) (text : List ℕ) → a ≢ Ok tt → sheet_line (sheet_number a) ≡ taken_by a text
+refused_by_lem (Ok u) text h = absurd (h refl)
+refused_by_lem (Err SheetRefusal.TooLong) text h = refl
+refused_by_lem (Err SheetRefusal.TooShort) text h = refl
+refused_by_lem (Err SheetRefusal.BadMark) text h = refl
+refused_by_lem (Err SheetRefusal.BadDistance) text h = refl
 
 module _ (text station company sheet : List ℕ) where
   pub said_unread : (request_of text).read ≡ false → text_bytes "request not read\n" ≡ report_of text station company sheet
@@ -33,13 +33,13 @@ module _ (text station company sheet : List ℕ) where
 
     module _ (l : (is_too_long station || is_too_long company) ≡ false) where
       pub said_refused :
-          (a : SheetAnswer) → a ≡ sheet_answer sheet → a ≢ SheetAnswer.Taken
+          (a : SheetAnswer) → a ≡ sheet_answer sheet → a ≢ Ok tt
           → sheet_line (sheet_number a) ≡ report_of text station company sheet
       unfolding report_of
       said_refused a e h = rw (r, l, ← e) (refused_by_lem a _ h)
 
       pub said_cleared :
-          (request : Request) (part : List ℕ) (t : Tables) (c : Cleared) → sheet_answer sheet ≡ SheetAnswer.Taken
+          (request : Request) (part : List ℕ) (t : Tables) (c : Cleared) → sheet_answer sheet ≡ Ok tt
           → request ≡ request_of text
           → part ≡ sheet_records sheet
           → t ≡ run_records_of start (records_up_to part (length part / 16))

@@ -213,7 +213,7 @@ pub fn report<'a>(
         return put_text(out, 0, b"list too long\n");
     }
     let answer = sheet_answer(sheet);
-    let SheetAnswer::Taken = answer else {
+    let Ok(()) = answer else {
         return put_sheet_line(out, 0, sheet_number(answer));
     };
     let tables = tables_after(sheet_records(sheet));

@@ -1,8 +1,8 @@
 -- What an accepted invoke, the delivery of its call, that of the call's reply and a drop needed and left. Assumes nothing.
-use Rattle.std.specs.Prelude.{ℕ, ◌%◌, ◌≤◌, ◌<◌, ◌≡◌, true, false, List, get_or, ltb}
+use Rattle.std.specs.Prelude.{ℕ, ◌%◌, ◌≤◌, ◌<◌, ◌≡◌, true, false, List, get_or, ltb, Ok}
 use Rattle.std.proofs.Common.{arith, ap, ◌∙◌, leb-false, ltb-false, le-ltb}
 use Rattle.std.proofs.Math.Path.{refl}
-use Rattle.rules.specs.Types.{Visit, Call, Body, Message, Tables, Step, Answer, Check, MailAt, Places, Seen}
+use Rattle.rules.specs.Types.{Visit, Call, Body, Message, Tables, Step, Check, MailAt, Places, Seen}
 use Rattle.rules.specs.Limits.{width_most, count_most, message_most}
 use Rattle.rules.specs.LoopsLaws.{not_false}
 use Rattle.rules.specs.Tables.{site_at, object_at, passage_at, visit_at, message_at, bank_at, object_site, slot_of, past_object, no_message}
@@ -44,7 +44,7 @@ pub record Invoked (t t' : Tables) (h slot site write object width v : ℕ) : Ty
   pub objects : t'.objects ≡ t.objects
 
 module _ (t : Tables) (h site write object width v : ℕ) (z : Sized t)
-    (a : (step_of t (Step.Invoke h site write object width)).answer ≡ Answer.Accepted v) where
+    (a : (step_of t (Step.Invoke h site write object width)).answer ≡ Ok v) where
   invoke_done_lem :
       (at : Places) → places_of t (look_of (Step.Invoke h site write object width)) ≡ at
       → Done t (step_of t (Step.Invoke h site write object width)).tables v at (invoke_checks h site write object width (seen_of t at)) at.message
@@ -81,7 +81,7 @@ module _ (t : Tables) (h site write object width v : ℕ) (z : Sized t)
 
 -- ---- 11. deliver
 
-pub deliver_below : (t : Tables) (m v : ℕ) → (step_of t (Step.Deliver m)).answer ≡ Answer.Accepted v → m < 32
+pub deliver_below : (t : Tables) (m v : ℕ) → (step_of t (Step.Deliver m)).answer ≡ Ok v → m < 32
 unfolding decide_of
 deliver_below t m v a =
     let e : bad_message m ≡ false = delivered_named _ m _ (ap is_accepted (accepted_decided t (Step.Deliver m) v refl a)) in
@@ -100,7 +100,7 @@ deliver_places x b m =
 -- an accepted delivery, by what its body decides
 pub deliver_done :
     (t : Tables) (m v : ℕ) (b : Body) (checks : Seen → List Check) (result : Seen → ℕ) (left : Seen → Seen) → Sized t
-    → (step_of t (Step.Deliver m)).answer ≡ Answer.Accepted v
+    → (step_of t (Step.Deliver m)).answer ≡ Ok v
     → (message_at t m).body ≡ b
     → ((seen : Seen)
     → deliver_body_of b m seen ≡ settle_of (record { answer = first_refusal (checks seen) (result seen); left = left seen }) seen)
@@ -135,7 +135,7 @@ pub record CallDelivered (t t' : Tables) (m : ℕ) (x : Message) (site slot : �
 
 pub call_delivered_effects :
     (t : Tables) (m v : ℕ) (c : Call) → Sized t → (message_at t m).body ≡ Body.Call c
-    → (step_of t (Step.Deliver m)).answer ≡ Answer.Accepted v
+    → (step_of t (Step.Deliver m)).answer ≡ Ok v
     → let x : Message = message_at t m in
     CallDelivered t (step_of t (Step.Deliver m)).tables m x x.destination (slot_of x.handle) c v
 unfolding deliver_body_of deliver_call_of
@@ -177,7 +177,7 @@ pub record ReplyDelivered (t t' : Tables) (m : ℕ) (x : Message) (site w v : �
 
 pub reply_delivered_effects :
     (t : Tables) (m v w : ℕ) → Sized t → (message_at t m).body ≡ Body.Reply w
-    → (step_of t (Step.Deliver m)).answer ≡ Answer.Accepted v
+    → (step_of t (Step.Deliver m)).answer ≡ Ok v
     → ReplyDelivered t (step_of t (Step.Deliver m)).tables m (message_at t m) (message_at t m).destination w v
 unfolding deliver_body_of deliver_reply_of
 reply_delivered_effects t m v w z e a =
@@ -204,7 +204,7 @@ pub record Dropped (t t' : Tables) (m v : ℕ) : Type 0 where
   pub visits : t'.visits ≡ t.visits
   pub objects : t'.objects ≡ t.objects
 
-module _ (t : Tables) (m v : ℕ) (z : Sized t) (a : (step_of t (Step.Drop m)).answer ≡ Answer.Accepted v) where
+module _ (t : Tables) (m v : ℕ) (z : Sized t) (a : (step_of t (Step.Drop m)).answer ≡ Ok v) where
   drop_done_lem :
       (at : Places) → places_of t (look_of (Step.Drop m)) ≡ at
       → Done t (step_of t (Step.Drop m)).tables v at (drop_checks m (seen_of t at)) 0 (lost (seen_of t at))
@@ -230,7 +230,7 @@ module _ (t : Tables) (m v : ℕ) (z : Sized t) (a : (step_of t (Step.Drop m)).a
 -- a message that is there can be dropped
 pub drop_accepted :
     (t : Tables) (m : ℕ) → in_range t ≡ true → m < 32 → is_empty (message_at t m).body ≡ false
-    → (step_of t (Step.Drop m)).answer ≡ Answer.Accepted 0
+    → (step_of t (Step.Drop m)).answer ≡ Ok 0
 unfolding decide_of drop_of first_refusal
 drop_accepted t m e below full =
     answered_at_lem t (Step.Drop m) _ refl e (mail_places t m e below)

@@ -1,7 +1,7 @@
 -- What an accepted step without turns leaves: its places hold the records that it decided, and every other place is as it was.
 -- Every step but sweep and crash is such a step. The files Effects.. say it of each step in its own words.
 -- Whoever knows what stood at a place rewrites such a record by it: rw e at (begin_effects ..). Assumes nothing.
-use Rattle.std.specs.Prelude.{ℕ, ◌/◌, ◌%◌, ◌≤◌, ◌<◌, ◌≡◌, refl, ◌≢◌, true, false, not, List, ltb, eqb, get_or, set}
+use Rattle.std.specs.Prelude.{ℕ, ◌/◌, ◌%◌, ◌≤◌, ◌<◌, ◌≡◌, refl, ◌≢◌, true, false, not, List, ltb, eqb, get_or, set, Ok, Err}
 use Rattle.std.proofs.Common.{arith, sym, ap, ◌∙◌, subst, ⊎_elim, get_or-set_same, get_or-set_other, ltb-false, eqb-true}
 use Rattle.std.proofs.lemmas.Bool.{false≢true, eqb-false}
 use Rattle.std.proofs.lemmas.List.{set-get_or}
@@ -79,9 +79,9 @@ module _ (t : Tables) (at : Places) (left : Seen) (b : Placed at) where
 
 -- ---- the bridge from an accepted step to what it stores
 
-pub accepted_answer : (a : Answer) → is_accepted a ≡ true → a ≡ Answer.Accepted (answer_value a)
-accepted_answer (Answer.Accepted v) e = refl
-accepted_answer (Answer.Refused r) e = absurd (false≢true e)
+pub accepted_answer : (a : Answer) → is_accepted a ≡ true → a ≡ Ok (answer_value a)
+accepted_answer (Ok v) e = refl
+accepted_answer (Err r) e = absurd (false≢true e)
 
 -- a step is accepted only on tables that are in range: number 20 is tried first
 pub accepted_in_range : (t : Tables) (step : Step) → is_accepted (step_of t step).answer ≡ true → in_range t ≡ true
@@ -113,9 +113,9 @@ accepted_head t step f a = flat_head t step f (accepted_in_range t step a) ∙ h
 
 -- its decision was accepted with the same value
 pub accepted_decided :
-    (t : Tables) (step : Step) (v : ℕ) → (look_of step).trip ≡ Trip.Nowhere → (step_of t step).answer ≡ Answer.Accepted v
+    (t : Tables) (step : Step) (v : ℕ) → (look_of step).trip ≡ Trip.Nowhere → (step_of t step).answer ≡ Ok v
     → let at : Places = places_of t (look_of step) in
-    (decide_of step (found_of t at) (seen_of t at)).answer ≡ Answer.Accepted v
+    (decide_of step (found_of t at) (seen_of t at)).answer ≡ Ok v
 accepted_decided t step v f a = sym (ap (λ (o : Outcome). o.answer) (accepted_head t step f (ap is_accepted a))) ∙ a
 
 -- the other way round: on tables in range a step answers what its decision at its places answers
@@ -155,7 +155,7 @@ pub done_at :
     (t : Tables) (step : Step) (v : ℕ) (at : Places) (checks : Seen → List Check) (result : Seen → ℕ) (left : Seen → Seen)
     → (look_of step).trip ≡ Trip.Nowhere
     → Sized t
-    → (step_of t step).answer ≡ Answer.Accepted v
+    → (step_of t step).answer ≡ Ok v
     → places_of t (look_of step) ≡ at
     → let seen : Seen = seen_of t at in
     decide_of step (found_of t at) seen
@@ -165,7 +165,7 @@ done_at t step v at checks result left f z a p decides =
     let seen : Seen = seen_of t at in
     let d : Decision = record { answer = first_refusal (checks seen) (result seen); left = left seen } in
     let h : step_of t step ≡ head_at t step at = accepted_head t step f (ap is_accepted a) ∙ ap (head_at t step) p in
-    let e : d.answer ≡ Answer.Accepted v =
+    let e : d.answer ≡ Ok v =
     sym (ap (λ (x : Decision). x.answer) decides) ∙ sym (ap (λ (o : Outcome). o.answer) h) ∙ a in
     let b : is_accepted d.answer ≡ true = ap is_accepted e in
     record {

@@ -1,8 +1,8 @@
 -- What an accepted begin, abort and retire needed and left. Assumes nothing.
-use Rattle.std.specs.Prelude.{ℕ, ◌%◌, ◌≤◌, ◌<◌, ◌≡◌, true, false, ◌||◌, ltb}
+use Rattle.std.specs.Prelude.{ℕ, ◌%◌, ◌≤◌, ◌<◌, ◌≡◌, true, false, ◌||◌, ltb, Ok}
 use Rattle.std.proofs.Common.{arith, ap, ◌∙◌, ltb-false, leb-false, le-ltb, eq-eqb}
 use Rattle.std.proofs.Math.Path.{refl}
-use Rattle.rules.specs.Types.{Passage, Tables, Step, Answer, MailAt, Places}
+use Rattle.rules.specs.Types.{Passage, Tables, Step, MailAt, Places}
 use Rattle.rules.specs.Limits.{clock_most, time_most}
 use Rattle.rules.specs.Loops.{some_up_to}
 use Rattle.rules.specs.LoopsLaws.{not_false, some_none}
@@ -36,7 +36,7 @@ pub record Begun (t t' : Tables) (home slot q r v : ℕ) : Type 0 where
   pub messages : t'.messages ≡ t.messages
   pub objects : t'.objects ≡ t.objects
 
-module _ (t : Tables) (home slot q r v : ℕ) (z : Sized t) (a : (step_of t (Step.Begin home slot q r)).answer ≡ Answer.Accepted v) where
+module _ (t : Tables) (home slot q r v : ℕ) (z : Sized t) (a : (step_of t (Step.Begin home slot q r)).answer ≡ Ok v) where
   begin_done_lem :
       (at : Places) → places_of t (look_of (Step.Begin home slot q r)) ≡ at
       → Done t (step_of t (Step.Begin home slot q r)).tables v at (begin_checks home slot q r (seen_of t at))
@@ -94,7 +94,7 @@ pub record Aborted (t t' : Tables) (h slot : ℕ) (p : Passage) (v : ℕ) : Type
   pub objects : t'.objects ≡ t.objects
 
 pub abort_effects :
-    (t : Tables) (h v : ℕ) → Sized t → (step_of t (Step.Abort h)).answer ≡ Answer.Accepted v
+    (t : Tables) (h v : ℕ) → Sized t → (step_of t (Step.Abort h)).answer ≡ Ok v
     → Aborted t (step_of t (Step.Abort h)).tables h (slot_of h) (passage_at t (slot_of h)) v
 unfolding decide_of abort_of
 abort_effects t h v z a =
@@ -117,7 +117,7 @@ pub abort_accepted :
     (t : Tables) (h : ℕ) → in_range t ≡ true → InUse h (passage_at t (slot_of h)) → is_running (passage_at t (slot_of h)).status ≡ true
     → (site_at t (passage_at t (slot_of h)).home).up ≡ true
     → next_clock (site_at t (passage_at t (slot_of h)).home) ≤ clock_most
-    → (step_of t (Step.Abort h)).answer ≡ Answer.Accepted 0
+    → (step_of t (Step.Abort h)).answer ≡ Ok 0
 unfolding decide_of abort_of first_refusal
 abort_accepted t h e n runs up fits =
     answered_at_lem t (Step.Abort h) _ refl e (home_places t MailAt.Nowhere h e)
@@ -139,7 +139,7 @@ pub record Retired (t t' : Tables) (h slot : ℕ) (p : Passage) (v : ℕ) : Type
   pub objects : t'.objects ≡ t.objects
 
 pub retire_effects :
-    (t : Tables) (h v : ℕ) → Sized t → (step_of t (Step.Retire h)).answer ≡ Answer.Accepted v
+    (t : Tables) (h v : ℕ) → Sized t → (step_of t (Step.Retire h)).answer ≡ Ok v
     → Retired t (step_of t (Step.Retire h)).tables h (slot_of h) (passage_at t (slot_of h)) v
 unfolding decide_of retire_of remains
 retire_effects t h v z a =

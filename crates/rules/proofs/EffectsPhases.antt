@@ -1,10 +1,10 @@
 -- What the delivery of a round's messages needed and left: phase 1, phase 2, and an answer.
 -- In each record x is the message that stood in slot m, for this site, and p the passage in the slot that its handle names. Assumes nothing.
-use Rattle.std.specs.Prelude.{ℕ, ◌<◌, ◌≡◌, ◌≢◌, Bool, true, false, ◌||◌, leb, eqb}
+use Rattle.std.specs.Prelude.{ℕ, ◌<◌, ◌≡◌, ◌≢◌, Bool, true, false, ◌||◌, leb, eqb, Ok}
 use Rattle.std.proofs.Math.Path.{refl}
 use Rattle.std.proofs.Math.Bool.{not}
 use borrow.Author.Tests.{leb-false, eqb-true, eq-eqb, ne_eqb}
-use Rattle.rules.specs.Types.{Phase, Passage, Asked, Told, Body, Message, Tables, Step, Answer, Seen}
+use Rattle.rules.specs.Types.{Phase, Passage, Asked, Told, Body, Message, Tables, Step, Seen}
 use Rattle.rules.specs.LoopsLaws.{not_false}
 use Rattle.rules.specs.Tables.{site_at, passage_at, visit_at, message_at, bank_at, slot_of, no_message}
 use Rattle.rules.specs.Parts.{clock_to, delivery_clock, is_free, is_phase_one, with_status, with_round, with_answer, asked_visit, asked_status, told_visit, told_status, asks_life, tells_life, answer_message}
@@ -81,7 +81,7 @@ pub record AnswerDelivered (t t' : Tables) (m : ℕ) (x : Message) (site slot : 
 
 -- ---- each follows from the delivery's acceptance and the message's body
 
-module _ (t : Tables) (m v : ℕ) (z : Sized t) (a : (step_of t (Step.Deliver m)).answer ≡ Answer.Accepted v) where
+module _ (t : Tables) (m v : ℕ) (z : Sized t) (a : (step_of t (Step.Deliver m)).answer ≡ Ok v) where
   reached_by :
       (b : Body) (life wrong : Bool) (left : Seen)
       → let seen : Seen = seen_of t (deliver_places (message_at t m) b m) in

@@ -1,12 +1,12 @@
 -- What the steps of a round needed and left where they were accepted: refresh, terminate, prepare, ask, close and tell.
 -- In each record p is the passage that stood in the handle's slot. Assumes nothing.
-use Rattle.std.specs.Prelude.{ℕ, ◌+◌, ◌%◌, ◌<◌, ◌≡◌, ◌≢◌, Bool, true, false, cond, ◌||◌, List, [], ◌∷◌, eqb, get_or}
+use Rattle.std.specs.Prelude.{ℕ, ◌+◌, ◌%◌, ◌<◌, ◌≡◌, ◌≢◌, Bool, true, false, cond, ◌||◌, List, [], ◌∷◌, eqb, get_or, Ok}
 use native.Mathlib.Omega.{arith}
 use Rattle.std.proofs.Math.Path.{refl, ap}
 use Rattle.std.proofs.Common.{◌∙◌, ⊎_elim, leb-false, ltb-false, eqb-true}
 use Rattle.std.proofs.Math.Bool.{not}
 use Rattle.std.proofs.lemmas.Bool.{false≢true, eqb-false}
-use Rattle.rules.specs.Types.{Object, Kind, Phase, Round, Status, Passage, Visit, Told, Body, Tables, Step, Refusal, Answer, Check, MailAt, Look, Places, Seen, Found}
+use Rattle.rules.specs.Types.{Object, Kind, Phase, Round, Status, Passage, Visit, Told, Body, Tables, Step, Refusal, Check, MailAt, Look, Places, Seen, Found}
 use Rattle.rules.specs.Limits.{count_most}
 use Rattle.rules.specs.LoopsLaws.{or_left, not_false, either, every_at}
 use Rattle.rules.specs.Tables.{past_object, site_at, passage_at, visit_at, bank_at, slot_of}
@@ -46,7 +46,7 @@ pub record Opened (t t' : Tables) (h slot : ℕ) (p : Passage) (k : Kind) (v : �
 open_effects :
     (t : Tables) (step : Step) (h : ℕ) (k : Kind) (bad : Bool) (v : ℕ) → look_of step ≡ looks_home MailAt.Nowhere h
     → Sized t
-    → (step_of t step).answer ≡ Answer.Accepted v
+    → (step_of t step).answer ≡ Ok v
     → ((found : Found) (seen : Seen) → decide_of step found seen ≡ open_of h k bad (not (opens k seen.passage.status)) seen)
     → (bad ≡ false → bad_handle h ≡ false)
     → Opened t (step_of t step).tables h (slot_of h) (passage_at t (slot_of h)) k v
@@ -72,7 +72,7 @@ open_effects t step h k bad v look z a decides handle =
 
 module _ (t : Tables) (h v : ℕ) (z : Sized t) where
   pub refresh_effects :
-      (q r : ℕ) → (step_of t (Step.Refresh h q r)).answer ≡ Answer.Accepted v
+      (q r : ℕ) → (step_of t (Step.Refresh h q r)).answer ≡ Ok v
       → Opened t (step_of t (Step.Refresh h q r)).tables h (slot_of h) (passage_at t (slot_of h)) (Kind.Refresh q r) v
   unfolding decide_of refresh_of
   refresh_effects q r a =
@@ -81,14 +81,14 @@ module _ (t : Tables) (h v : ℕ) (z : Sized t) where
       (or_left (bad_handle h) (bad_times q r))
 
   pub terminate_effects :
-      (step_of t (Step.Terminate h)).answer ≡ Answer.Accepted v
+      (step_of t (Step.Terminate h)).answer ≡ Ok v
       → Opened t (step_of t (Step.Terminate h)).tables h (slot_of h) (passage_at t (slot_of h)) Kind.Terminate v
   unfolding decide_of terminate_of
   terminate_effects a =
       open_effects t (Step.Terminate h) h Kind.Terminate (bad_handle h) v refl z a (λ found seen. refl) (λ e. e)
 
   pub prepare_effects :
-      (step_of t (Step.Prepare h)).answer ≡ Answer.Accepted v
+      (step_of t (Step.Prepare h)).answer ≡ Ok v
       → Opened t (step_of t (Step.Prepare h)).tables h (slot_of h) (passage_at t (slot_of h)) Kind.Prepare v
   unfolding decide_of prepare_of
   prepare_effects a =
@@ -165,7 +165,7 @@ sent_out_lem h site body wrong d w =
 
 module _ (t : Tables) (h site v : ℕ) (z : Sized t) where
   pub ask_effects :
-      (step_of t (Step.Ask h site)).answer ≡ Answer.Accepted v → AskSent t (step_of t (Step.Ask h site)).tables h (passage_at t (slot_of h)) site v
+      (step_of t (Step.Ask h site)).answer ≡ Ok v → AskSent t (step_of t (Step.Ask h site)).tables h (passage_at t (slot_of h)) site v
   unfolding decide_of ask_of
   ask_effects a =
       let at = home_places t MailAt.Empty h (accepted_in_range t (Step.Ask h site) (ap is_accepted a)) in
@@ -176,7 +176,7 @@ module _ (t : Tables) (h site v : ℕ) (z : Sized t) where
       record { phase = phase_one_is _ (not_false _ ph); sent = sent_out_lem h site (ask_body (passage_at t (slot_of h)).round) _ d w }
 
   pub tell_effects :
-      (step_of t (Step.Tell h site)).answer ≡ Answer.Accepted v → TellSent t (step_of t (Step.Tell h site)).tables h (passage_at t (slot_of h)) site v
+      (step_of t (Step.Tell h site)).answer ≡ Ok v → TellSent t (step_of t (Step.Tell h site)).tables h (passage_at t (slot_of h)) site v
   unfolding decide_of tell_of
   tell_effects a =
       let at = home_places t MailAt.Empty h (accepted_in_range t (Step.Tell h site) (ap is_accepted a)) in
@@ -225,7 +225,7 @@ pub record Closed (t t' : Tables) (h slot : ℕ) (p : Passage) (told : Told) (v 
   pub messages : t'.messages ≡ t.messages
 
 pub close_effects :
-    (t : Tables) (h v : ℕ) → Sized t → (step_of t (Step.Close h)).answer ≡ Answer.Accepted v
+    (t : Tables) (h v : ℕ) → Sized t → (step_of t (Step.Close h)).answer ≡ Ok v
     → Closed t (step_of t (Step.Close h)).tables h (slot_of h) (passage_at t (slot_of h)) (round_told (passage_at t (slot_of h)).round) v
 unfolding decide_of close_of
 close_effects t h v z a =

@@ -1,6 +1,6 @@
 -- Laws of the parts of an object: who holds one that is taken, read or written, freed or restored, and what its values are then.
 -- Other laws ask who holds an object by is_unheld, is_held_by and is_held_by_other alone; only those of this file know what a holder is. Assumes nothing.
-use Rattle.std.specs.Prelude.{ℕ, ◌≡◌, refl, ◌≢◌, ◌⊎◌, Bool, true, false, cond, not, ◌&&◌, ◌||◌, eqb}
+use Rattle.std.specs.Prelude.{ℕ, ◌≡◌, refl, ◌≢◌, ◌⊎◌, Bool, true, false, cond, not, ◌&&◌, ◌||◌, eqb, Some, None}
 use Rattle.std.proofs.Common.{sym, ap, ◌∙◌, ⊎_elim, inl, inr, true≢false, eqb-true, eq-eqb, ne_eqb}
 use Rattle.std.proofs.lemmas.Bool.{false≢true, eqb-false}
 use Rattle.rules.specs.Types.{Holder, Object, Call}
@@ -13,21 +13,21 @@ use Rattle.rules.specs.Parts.{is_unheld, is_held_by, is_held_by_other, taken, op
 -- a passage slot holds an object exactly if the object's holder is that slot
 pub held_means :
     (p : ℕ) (o : Object)
-    → (is_held_by p o ≡ true → o.holder ≡ Holder.Slot p) × (o.holder ≡ Holder.Slot p → is_held_by p o ≡ true)
+    → (is_held_by p o ≡ true → o.holder ≡ Some p) × (o.holder ≡ Some p → is_held_by p o ≡ true)
 held_means p o = (says o.holder refl, λ e. rw (e, eq-eqb p p refl))
   where
-    says : (x : Holder) → o.holder ≡ x → is_held_by p o ≡ true → o.holder ≡ Holder.Slot p
-    says Holder.Nobody y e = absurd (false≢true (rw y at e))
-    says (Holder.Slot k) y e = y ∙ ap Holder.Slot (eqb-true k p (rw y at e))
+    says : (x : Holder) → o.holder ≡ x → is_held_by p o ≡ true → o.holder ≡ Some p
+    says None y e = absurd (false≢true (rw y at e))
+    says (Some k) y e = y ∙ ap Some (eqb-true k p (rw y at e))
 
 -- an object is unheld exactly if its holder is nobody
 pub unheld_means :
-    (o : Object) → (is_unheld o ≡ true → o.holder ≡ Holder.Nobody) × (o.holder ≡ Holder.Nobody → is_unheld o ≡ true)
+    (o : Object) → (is_unheld o ≡ true → o.holder ≡ None) × (o.holder ≡ None → is_unheld o ≡ true)
 unheld_means o = (says o.holder refl, λ e. rw e)
   where
-    says : (x : Holder) → o.holder ≡ x → is_unheld o ≡ true → o.holder ≡ Holder.Nobody
-    says Holder.Nobody y e = y
-    says (Holder.Slot k) y e = absurd (false≢true (rw y at e))
+    says : (x : Holder) → o.holder ≡ x → is_unheld o ≡ true → o.holder ≡ None
+    says None y e = y
+    says (Some k) y e = absurd (false≢true (rw y at e))
 
 -- ---- who holds it
 
@@ -43,8 +43,8 @@ pub someone_holds : (o : Object) → is_unheld o ≡ false → (p : ℕ) × (is_
 someone_holds o = says o.holder refl
   where
     says : (x : Holder) → o.holder ≡ x → is_unheld o ≡ false → (p : ℕ) × (is_held_by p o ≡ true)
-    says Holder.Nobody y e = absurd (true≢false (sym ((unheld_means o).1 y) ∙ e))
-    says (Holder.Slot k) y e = (k, (held_means k o).1 y)
+    says None y e = absurd (true≢false (sym ((unheld_means o).1 y) ∙ e))
+    says (Some k) y e = (k, (held_means k o).1 y)
 
 -- the object of an empty place is unheld, and so is the one past the end
 pub none_unheld : (is_unheld no_object ≡ true) × (is_unheld past_object ≡ true)
@@ -58,7 +58,7 @@ let_go_unheld value = refl
 
 -- let_go_one below uses it, and in runs listed_by_one, value_while_held, operation_before_letting_go, never_on_both_sides and abort_is_whole
 pub one_holder : (p q : ℕ) (o : Object) → is_held_by p o ≡ true → is_held_by q o ≡ true → p ≡ q
-one_holder p q o e f = let y : o.holder ≡ Holder.Slot p = (held_means p o).0 e in eqb-true p q (rw y at f)
+one_holder p q o e f = let y : o.holder ≡ Some p = (held_means p o).0 e in eqb-true p q (rw y at f)
 
 -- ---- taken, then read or written
 
@@ -105,8 +105,8 @@ module _ (p : ℕ) (o : Object) where
       or_same false = refl
 
       takes : (x : Holder) → o.holder ≡ x → is_held_by q (taken p o) ≡ (eqb p q || is_held_by q o)
-      takes Holder.Nobody y = rw y (or_none (eqb p q))
-      takes (Holder.Slot k) y =
+      takes None y = rw y (or_none (eqb p q))
+      takes (Some k) y =
           let e : k ≡ p = eqb-true k p (not_false _ (rw y at free)) in rw (y, e) (or_same (eqb p q))
 
   -- so p holds it then

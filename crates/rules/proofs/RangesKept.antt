@@ -1,6 +1,6 @@
 -- Every step keeps the tables in range, so in a run from the start number 20 is never met.
 -- A law fits-after-STEP shows the records that an accepted step leaves in range, from the checks that it passed. Assumes nothing.
-use Rattle.std.specs.Prelude.{ℕ, zero, suc, ◌+◌, ◌%◌, ◌≤◌, ◌<◌, ◌≡◌, Bool, cond, ◌||◌, List, [], ◌∷◌}
+use Rattle.std.specs.Prelude.{ℕ, zero, suc, ◌+◌, ◌%◌, ◌≤◌, ◌<◌, ◌≡◌, Bool, cond, ◌||◌, List, [], ◌∷◌, Some, None}
 use native.Mathlib.Omega.{arith}
 use Rattle.std.proofs.Math.Path.{refl}
 use Rattle.std.proofs.Common.{sym, ◌∙◌, ⊎_elim}
@@ -291,8 +291,8 @@ in_range_after_step t step e =
     (in_range_after_head t step e)
 
 in_range_after_reading : (t : Tables) (r : Reading) → in_range t ≡ true → in_range (reading_of t r).tables ≡ true
-in_range_after_reading t Reading.Nothing e = e
-in_range_after_reading t (Reading.Known step) e = in_range_after_step t step e
+in_range_after_reading t None e = e
+in_range_after_reading t (Some step) e = in_range_after_step t step e
 
 pub in_range_after_record : (t : Tables) (b : List ℕ) → in_range t ≡ true → in_range (record_in_range_of t b).tables ≡ true
 unfolding record_in_range_of

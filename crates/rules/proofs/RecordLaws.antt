@@ -1,8 +1,8 @@
 -- Laws of the record: what is written reads back, and what is read writes back, byte for byte. Assumes nothing.
 -- First numbers and bytes, then fields and bytes, then the table, then steps and records.
-use Rattle.std.specs.Prelude.{ℕ, zero, suc, ◌+◌, ◌*◌, ◌-◌, ◌/◌, ◌%◌, ◌≤◌, ◌<◌, ◌≡◌, refl, Bool, true, ◌&&◌, List, leb, ltb, eqb, length, get_or}
+use Rattle.std.specs.Prelude.{ℕ, zero, suc, ◌+◌, ◌*◌, ◌-◌, ◌/◌, ◌%◌, ◌≤◌, ◌<◌, ◌≡◌, refl, Bool, true, ◌&&◌, List, leb, ltb, eqb, length, get_or, Some}
 use Rattle.std.proofs.Common.{arith, not-suc-le-zero, sym, ap, ◌∙◌, subst, ⊎_elim, leb-true, ltb-true, ltb-false, eqb-true, ext_get_or}
-use Rattle.rules.specs.Types.{Step, Fields, Reading}
+use Rattle.rules.specs.Types.{Step, Fields}
 use Rattle.rules.specs.LoopsLaws.{and_left, and_right, either, below_or_last}
 use Rattle.rules.specs.Record.{fields_of, bytes_of, is_code, row_of, is_named, fits, fields_fit, kept, kept_fields, steps_of, flat_of, step_of_fields, step_of_record, record_of_step}
 
@@ -172,7 +172,7 @@ rows f =
     ((((((((((((((((tt, refl), refl), refl), refl), refl), refl), refl), refl), refl), refl), refl), refl), refl), refl), refl), refl)
 
 -- a step's own fields make that step
-flat_known : (s : Step) → step_of_fields (flat_of s) ≡ Reading.Known s
+flat_known : (s : Step) → step_of_fields (flat_of s) ≡ Some s
 unfolding step_of_fields
 flat_known (Step.Tick site n) = refl
 flat_known (Step.Begin home slot q r) = refl
@@ -194,7 +194,7 @@ flat_known (Step.Retire h) = refl
 -- ---- steps and records
 
 -- fields that make a step fit their row
-known_fits : (f : Fields) (s : Step) → step_of_fields f ≡ Reading.Known s → (is_code f.code && fields_fit f) ≡ true
+known_fits : (f : Fields) (s : Step) → step_of_fields f ≡ Some s → (is_code f.code && fields_fit f) ≡ true
 unfolding step_of_fields
 known_fits f s e =
     ⊎_elim
@@ -203,7 +203,7 @@ known_fits f s e =
     (either (is_code f.code && fields_fit f))
 
 -- and are that step's own fields
-known_flat : (f : Fields) (s : Step) → step_of_fields f ≡ Reading.Known s → flat_of s ≡ f
+known_flat : (f : Fields) (s : Step) → step_of_fields f ≡ Some s → flat_of s ≡ f
 unfolding step_of_fields RowKept
 known_flat f s e =
     let k = known_fits f s e in
@@ -233,17 +233,17 @@ record_flat s =
     (fit_kept (flat_of s) (and_right (is_code (flat_of s).code) (fields_fit (flat_of s)) (flat_fits s)))
 
 -- what is written reads back
-pub written_reads : (s : Step) → StepFits s → step_of_record (record_of_step s) ≡ Reading.Known s
+pub written_reads : (s : Step) → StepFits s → step_of_record (record_of_step s) ≡ Some s
 unfolding step_of_record
 written_reads s w = rw (record_flat s, bytes_fields (flat_of s) w) (flat_known s)
 
 -- what is read writes back, byte for byte
-pub read_writes : (b : List ℕ) → Bytes16 b → (s : Step) → step_of_record b ≡ Reading.Known s → record_of_step s ≡ b
+pub read_writes : (b : List ℕ) → Bytes16 b → (s : Step) → step_of_record b ≡ Some s → record_of_step s ≡ b
 unfolding step_of_record
 read_writes b w s e = rw (record_flat s, known_flat (fields_of b) s e) (fields_bytes b w)
 
 -- a step that is read fits its record
-pub read_fits : (b : List ℕ) → Bytes16 b → (s : Step) → step_of_record b ≡ Reading.Known s → StepFits s
+pub read_fits : (b : List ℕ) → Bytes16 b → (s : Step) → step_of_record b ≡ Some s → StepFits s
 unfolding step_of_record
 read_fits b w s e = rw (known_flat (fields_of b) s e) (fields_widths b w)
 

@@ -1,5 +1,5 @@
 -- Demand 1 of the definitions: a refused step or record leaves every table as it stood. Assumes nothing.
-use Rattle.std.specs.Prelude.{ℕ, zero, suc, ◌≡◌, refl, Bool, false, List}
+use Rattle.std.specs.Prelude.{ℕ, zero, suc, ◌≡◌, refl, Bool, false, List, Ok, Err, Some, None}
 use Rattle.std.proofs.Common.{sym, ap, ◌∙◌, ⊎_elim, true≢false}
 use Rattle.rules.specs.Types.{Tables, Step, Reading, Answer, Trip, Outcome}
 use Rattle.rules.specs.Ranges.{in_range}
@@ -12,8 +12,8 @@ use Rattle.rules.specs.StoredLaws.{stored_seen}
 
 -- a refusal carries value 0
 pub refused_value : (a : Answer) → is_accepted a ≡ false → answer_value a ≡ 0
-refused_value (Answer.Accepted v) e = absurd (true≢false e)
-refused_value (Answer.Refused r) e = refl
+refused_value (Ok v) e = absurd (true≢false e)
+refused_value (Err r) e = refl
 
 head_refused : (t : Tables) (step : Step) → is_accepted (head_of t step).answer ≡ false → (head_of t step).tables ≡ t
 unfolding head_of
@@ -29,8 +29,8 @@ head_refused t step e =
 
 -- going through the slots neither refuses nor accepts
 count_keeps : (a : Answer) (b : Bool) → is_accepted (count_one a b) ≡ is_accepted a
-count_keeps (Answer.Accepted v) b = refl
-count_keeps (Answer.Refused r) b = refl
+count_keeps (Ok v) b = refl
+count_keeps (Err r) b = refl
 
 turn_keeps : (trip : Trip) (slot : ℕ) (o : Outcome) → is_accepted (turn_of trip slot o).answer ≡ is_accepted o.answer
 unfolding turn_of
@@ -68,8 +68,8 @@ refused_leaves t step e =
     (either (in_range t))
 
 reading_refused : (t : Tables) (r : Reading) → is_accepted (reading_of t r).answer ≡ false → (reading_of t r).tables ≡ t
-reading_refused t Reading.Nothing e = refl
-reading_refused t (Reading.Known step) e = in_range_refused t step e
+reading_refused t None e = refl
+reading_refused t (Some step) e = in_range_refused t step e
 
 pub refused_record_leaves : (t : Tables) (b : List ℕ) → is_accepted (step_record_of t b).answer ≡ false → (step_record_of t b).tables ≡ t
 unfolding step_record_of record_in_range_of
@@ -80,6 +80,6 @@ refused_record_leaves t b e =
     (either (in_range t))
 
 -- a record that stands for a step does what the step does
-pub record_is_step : (t : Tables) (b : List ℕ) (step : Step) → step_of_record b ≡ Reading.Known step → step_record_of t b ≡ step_of t step
+pub record_is_step : (t : Tables) (b : List ℕ) (step : Step) → step_of_record b ≡ Some step → step_record_of t b ≡ step_of t step
 unfolding step_record_of record_in_range_of step_of
 record_is_step t b step e = rw e

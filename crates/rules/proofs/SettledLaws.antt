@@ -1,6 +1,6 @@
 -- Every decision is settled by its checks, of which none gives 20 and whose numbers rise: one row to a step and one to a message's body.
 -- That a refusal leaves what was seen, that no step gives 20, and that a refusal is the lowest that applies, is read from these rows. Assumes nothing.
-use Rattle.std.specs.Prelude.{ℕ, ◌<◌, ◌≤◌, ◌≡◌, refl, Bool, true, false, not, ◌&&◌, ◌||◌, List, [], ◌∷◌, eqb, leb, ltb}
+use Rattle.std.specs.Prelude.{ℕ, ◌<◌, ◌≤◌, ◌≡◌, refl, Bool, true, false, not, ◌&&◌, ◌||◌, List, [], ◌∷◌, eqb, leb, ltb, Err}
 use Rattle.std.proofs.Common.{arith, sym, subst, ◌∙◌, ⊎_elim, eq-eqb, ne_eqb, eqb-true, ltb-true}
 use Rattle.std.proofs.lemmas.Bool.{false≢true}
 use Rattle.rules.specs.Types.{Body, Step, Refusal, Answer, Check, Seen, Found, Decision}
@@ -52,7 +52,7 @@ rising_above (c ∷ cs) n k l e =
     let i : k < refusal_number c.gives = ltb-true _ _ (and_left _ (is_rising (refusal_number c.gives) cs) e) in
     (λ h. omega arith, rising_above cs n (refusal_number c.gives) (omega arith) (and_right (ltb k (refusal_number c.gives)) _ e))
 
-first_given : (c : Check) (cs : List Check) (v : ℕ) → c.holds ≡ true → first_refusal (c ∷ cs) v ≡ Answer.Refused c.gives
+first_given : (c : Check) (cs : List Check) (v : ℕ) → c.holds ≡ true → first_refusal (c ∷ cs) v ≡ Err c.gives
 unfolding first_refusal
 first_given c cs v h = rw h
 

@@ -1,6 +1,6 @@
 -- Number 20 exactly: a step or a record is refused by it if and only if the tables handed in are out of range.
 -- The idea: no list of checks has a check that gives 20, and going through the slots of a site changes no number. Assumes nothing.
-use Rattle.std.specs.Prelude.{ℕ, zero, suc, ◌≡◌, refl, Bool, false, not, List}
+use Rattle.std.specs.Prelude.{ℕ, zero, suc, ◌≡◌, refl, Bool, false, not, List, Ok, Err, Some, None}
 use Rattle.std.proofs.Common.{◌∙◌, ⊎_elim}
 use Rattle.rules.specs.Types.{Tables, Step, Reading, Answer, Trip, Outcome}
 use Rattle.rules.specs.Ranges.{in_range}
@@ -11,8 +11,8 @@ use Rattle.rules.proofs.SettledLaws.{is_twenty, decided_not_twenty}
 use Rattle.rules.specs.Record.{step_of_record, reading_of, record_in_range_of, step_record_of}
 
 number_after_count : (a : Answer) (b : Bool) → answer_number (count_one a b) ≡ answer_number a
-number_after_count (Answer.Accepted v) b = refl
-number_after_count (Answer.Refused r) b = refl
+number_after_count (Ok v) b = refl
+number_after_count (Err r) b = refl
 
 number_after_turn : (trip : Trip) (slot : ℕ) (o : Outcome) → answer_number (turn_of trip slot o).answer ≡ answer_number o.answer
 unfolding turn_of
@@ -32,8 +32,8 @@ in_range_not_twenty t step =
     (decided_not_twenty step _ _)
 
 reading_not_twenty : (t : Tables) (r : Reading) → is_twenty (reading_of t r).answer ≡ false
-reading_not_twenty t Reading.Nothing = refl
-reading_not_twenty t (Reading.Known step) = in_range_not_twenty t step
+reading_not_twenty t None = refl
+reading_not_twenty t (Some step) = in_range_not_twenty t step
 
 -- a step on tables that are in range never answers 20, and one on any others always does
 pub twenty_of_step : (t : Tables) (step : Step) → is_twenty (step_of t step).answer ≡ not (in_range t)

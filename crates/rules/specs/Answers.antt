@@ -1,5 +1,5 @@
 -- Refusals and answers: the paper's numbers, and how the first refusal that applies is found. Assumes nothing.
-use Rattle.std.specs.Prelude.{ℕ, Bool, true, false, cond, List, [], ◌∷◌}
+use Rattle.std.specs.Prelude.{ℕ, Bool, true, false, cond, List, [], ◌∷◌, Ok, Err}
 use Rattle.rules.specs.Types.{Refusal, Answer, Check, Seen, Decision}
 
 -- "Refusal numbers, in the order they are tried". Request a of document 02: "13 call count at 1,000, 14 round number at 1,000; both stand after 11"
@@ -22,17 +22,17 @@ refusal_number Refusal.NoRoundLeft = 14
 
 -- "Accepted is number 0."
 abbrev pub answer_number : Answer → ℕ
-answer_number (Answer.Accepted v) = 0
-answer_number (Answer.Refused r) = refusal_number r
+answer_number (Ok v) = 0
+answer_number (Err r) = refusal_number r
 
 -- "A refusal answers its number and value 0"
 abbrev pub answer_value : Answer → ℕ
-answer_value (Answer.Accepted v) = v
-answer_value (Answer.Refused r) = 0
+answer_value (Ok v) = v
+answer_value (Err r) = 0
 
 abbrev pub is_accepted : Answer → Bool
-is_accepted (Answer.Accepted v) = true
-is_accepted (Answer.Refused r) = false
+is_accepted (Ok v) = true
+is_accepted (Err r) = false
 
 -- one line of the refusal table at a step: this refusal, given where that holds
 abbrev pub refuse : Refusal → Bool → Check
@@ -40,8 +40,8 @@ refuse gives holds = record { holds = holds; gives = gives }
 
 -- the first check that holds refuses; where none does, the step is accepted with this value
 unfoldable pub first_refusal : List Check → ℕ → Answer
-first_refusal [] value = Answer.Accepted value
-first_refusal (c ∷ cs) value = cond c.holds (Answer.Refused c.gives) (first_refusal cs value)
+first_refusal [] value = Ok value
+first_refusal (c ∷ cs) value = cond c.holds (Err c.gives) (first_refusal cs value)
 
 -- "A refusal .. and all tables stay": what is left is what was decided if accepted, else what was seen
 abbrev pub settle_of : Decision → Seen → Decision

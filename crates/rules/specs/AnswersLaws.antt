@@ -1,6 +1,6 @@
 -- Laws of the answers: that the numbers tell the refusals apart, what an accepted answer says of every check, and what a refused decision leaves.
 -- Assumes nothing.
-use Rattle.std.specs.Prelude.{ℕ, ◌-◌, ◌≤◌, ◌≡◌, refl, ◌≢◌, Bool, true, false, cond, List, [], ◌∷◌, eqb, get_or}
+use Rattle.std.specs.Prelude.{ℕ, ◌-◌, ◌≤◌, ◌≡◌, refl, ◌≢◌, Bool, true, false, cond, List, [], ◌∷◌, eqb, get_or, Ok, Err}
 use Rattle.std.proofs.Common.{arith, sym, ap, ◌∙◌, ⊎_elim}
 use Rattle.std.proofs.lemmas.Bool.{false≢true}
 use Rattle.rules.specs.Types.{Refusal, Answer, Check, Seen, Decision}
@@ -49,8 +49,8 @@ refusals_differ r s e =
 
 -- so an answer has number 0 exactly if it is accepted
 pub accepted_is_zero : (a : Answer) → (is_accepted a ≡ true → answer_number a ≡ 0) × (answer_number a ≡ 0 → is_accepted a ≡ true)
-accepted_is_zero (Answer.Accepted v) = (λ e. refl, λ e. refl)
-accepted_is_zero (Answer.Refused r) = (λ e. absurd (false≢true e), λ e. absurd (refusal_not_zero r e))
+accepted_is_zero (Ok v) = (λ e. refl, λ e. refl)
+accepted_is_zero (Err r) = (λ e. absurd (false≢true e), λ e. absurd (refusal_not_zero r e))
 
 -- ---- checks and decisions
 
@@ -134,12 +134,12 @@ pub accepted_fine : (cs : List Check) (v : ℕ) → is_accepted (first_refusal c
 accepted_fine cs v e = clear_fine cs (accepted_clear cs v e)
 
 -- and where none holds, the step is accepted with its value
-clear_accepted : (cs : List Check) (v : ℕ) → Clear cs → first_refusal cs v ≡ Answer.Accepted v
+clear_accepted : (cs : List Check) (v : ℕ) → Clear cs → first_refusal cs v ≡ Ok v
 unfolding first_refusal
 clear_accepted [] v f = refl
 clear_accepted (c ∷ cs) v f = rw f.0 (clear_accepted cs v f.1)
 
-pub accepted_value : (cs : List Check) (v : ℕ) → is_accepted (first_refusal cs v) ≡ true → first_refusal cs v ≡ Answer.Accepted v
+pub accepted_value : (cs : List Check) (v : ℕ) → is_accepted (first_refusal cs v) ≡ true → first_refusal cs v ≡ Ok v
 accepted_value cs v e = clear_accepted cs v (accepted_clear cs v e)
 
 -- a refused decision leaves what was seen, an accepted one what was decided

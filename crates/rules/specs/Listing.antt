@@ -1,6 +1,6 @@
 -- The listing: what passrun prints for a sheet, byte for byte. Assumes nothing.
 -- "prints for each record: its place from 1, refusal number, value, one space between, each line ended by a newline"
-use Rattle.std.specs.Prelude.{ℕ, zero, suc, ◌+◌, ◌/◌, ◌%◌, cond, List, [], ◌∷◌, ◌++◌, ltb, length}
+use Rattle.std.specs.Prelude.{ℕ, zero, suc, ◌+◌, ◌/◌, ◌%◌, cond, List, [], ◌∷◌, ◌++◌, ltb, length, Ok, Err}
 use Rattle.rules.specs.Types.{Tables, Answer, Outcome, SheetAnswer}
 use Rattle.rules.specs.Tables.{start}
 use Rattle.rules.specs.Answers.{answer_number, answer_value}
@@ -50,11 +50,8 @@ abbrev pub sheet_line : ℕ → List ℕ
 sheet_line number = 115 ∷ 104 ∷ 101 ∷ 101 ∷ 116 ∷ 32 ∷ (decimal_of number ++ (10 ∷ []))
 
 abbrev pub listing_by : SheetAnswer → List ℕ → List ℕ
-listing_by SheetAnswer.Taken part = (printed_up_to part (length part / 16)).text
-listing_by SheetAnswer.TooLong part = sheet_line (sheet_number SheetAnswer.TooLong)
-listing_by SheetAnswer.TooShort part = sheet_line (sheet_number SheetAnswer.TooShort)
-listing_by SheetAnswer.BadMark part = sheet_line (sheet_number SheetAnswer.BadMark)
-listing_by SheetAnswer.BadDistance part = sheet_line (sheet_number SheetAnswer.BadDistance)
+listing_by (Ok u) part = (printed_up_to part (length part / 16)).text
+listing_by (Err r) part = sheet_line (sheet_number (Err r))
 
 unfoldable pub listing_of : List ℕ → List ℕ
 listing_of sheet = listing_by (sheet_answer sheet) (sheet_records sheet)

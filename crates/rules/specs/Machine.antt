@@ -1,5 +1,5 @@
 -- A step on the tables: look at the few records that it names, decide from them, store what is left; then number 20 before all. Assumes nothing.
-use Rattle.std.specs.Prelude.{ℕ, zero, suc, ◌+◌, ◌%◌, min, Bool, cond, ◌&&◌, ◌||◌, not, eqb}
+use Rattle.std.specs.Prelude.{ℕ, zero, suc, ◌+◌, ◌%◌, min, Bool, cond, ◌&&◌, ◌||◌, not, eqb, Ok, Err}
 use Rattle.rules.specs.Types.{Passage, Body, Message, Tables, Step, Refusal, Answer, MailAt, SlotAt, SiteAt, Trip, Look, Places, Found, Seen, Decision, Outcome}
 use Rattle.rules.specs.Limits.{message_most}
 use Rattle.rules.specs.Loops.{one_if, some_up_to, first_up_to}
@@ -192,8 +192,8 @@ turn_seen (Trip.Crash site) slot seen = crashed_slot site slot seen
 
 -- "Value: visits removed"
 abbrev pub count_one : Answer → Bool → Answer
-count_one (Answer.Accepted v) b = Answer.Accepted (v + one_if b)
-count_one (Answer.Refused r) b = Answer.Refused r
+count_one (Ok v) b = Ok (v + one_if b)
+count_one (Err r) b = Err r
 
 -- the answer after a turn
 abbrev pub turn_answer : Trip → Answer → Seen → Answer
@@ -231,7 +231,7 @@ step_in_range_of t step =
 
 -- refused by 20: "all tables stay"
 abbrev pub refused_all : Tables → Outcome
-refused_all t = record { answer = Answer.Refused Refusal.OutOfRange; tables = t }
+refused_all t = record { answer = Err Refusal.OutOfRange; tables = t }
 
 -- "20 tried first"
 abbrev pub unless_out_of_range : Tables → Outcome → Outcome

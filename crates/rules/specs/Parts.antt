@@ -1,5 +1,5 @@
 -- The small changes of single records that the rules are made of: clocks, visits, objects, rounds, passages, messages. Assumes nothing.
-use Rattle.std.specs.Prelude.{ℕ, ◌+◌, ◌/◌, ◌%◌, ◌^◌, min, max, Bool, true, false, cond, not, List, [], ◌∷◌, eqb, get_or, set, replicate}
+use Rattle.std.specs.Prelude.{ℕ, ◌+◌, ◌/◌, ◌%◌, ◌^◌, min, max, Bool, true, false, cond, not, List, [], ◌∷◌, eqb, get_or, set, replicate, Some, None}
 use Rattle.std.specs.Int.Bits.{bit_or}
 use Rattle.rules.specs.Types.{Site, Holder, Object, Figures, Kind, Phase, Round, Status, Passage, Visit, Call, Asked, Told, Body, Message}
 use Rattle.rules.specs.Loops.{one_if, every_up_to, sum_up_to, most_up_to}
@@ -189,23 +189,23 @@ count_received v =
 -- ---- objects
 
 abbrev pub is_unheld : Object → Bool
-is_unheld o = elim o.holder [ Holder.Nobody ↦ true | Holder.Slot k ↦ false ]
+is_unheld o = elim o.holder [ None ↦ true | Some k ↦ false ]
 
 abbrev pub is_slot : ℕ → Holder → Bool
-is_slot p Holder.Nobody = false
-is_slot p (Holder.Slot k) = eqb k p
+is_slot p None = false
+is_slot p (Some k) = eqb k p
 
 abbrev pub is_held_by : ℕ → Object → Bool
 is_held_by p o = is_slot p o.holder
 
 -- "object held by another passage"
 abbrev pub is_held_by_other : ℕ → Object → Bool
-is_held_by_other p o = elim o.holder [ Holder.Nobody ↦ false | Holder.Slot k ↦ not (eqb k p) ]
+is_held_by_other p o = elim o.holder [ None ↦ false | Some k ↦ not (eqb k p) ]
 
 -- "The object is taken if unheld": a held one keeps the value before its first taking
 abbrev pub taken : ℕ → Object → Object
 taken p o =
-    cond (is_unheld o) (record { value = o.value; holder = Holder.Slot p; before = o.value }) o
+    cond (is_unheld o) (record { value = o.value; holder = Some p; before = o.value }) o
 
 -- "then read or written"
 abbrev pub operated : Call → Object → Object
@@ -214,7 +214,7 @@ operated c o =
 
 -- "the value before the holder took it, 0 once freed"
 abbrev pub unheld : ℕ → Object
-unheld value = record { value = value; holder = Holder.Nobody; before = 0 }
+unheld value = record { value = value; holder = None; before = 0 }
 
 -- "its objects are freed and keep their values"
 abbrev pub freed : ℕ → Object → Object

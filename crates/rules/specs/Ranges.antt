@@ -1,7 +1,7 @@
 -- Number 20: "the tables handed in hold a number outside the ranges above, or kind none in phase 1 or 2".
 -- Every number of every table counts, whether its place is in use or not; how the tables fit together does not. Assumes nothing.
-use Rattle.std.specs.Prelude.{ℕ, Bool, true, false, ◌&&◌, List, leb, get_or}
-use Rattle.rules.specs.Types.{Site, Holder, Object, Figures, Kind, Phase, Round, Passage, Visit, Call, Asked, Told, Body, Message, Tables}
+use Rattle.std.specs.Prelude.{ℕ, Bool, true, false, ◌&&◌, List, leb, get_or, Some, None}
+use Rattle.rules.specs.Types.{Site, Object, Figures, Kind, Phase, Round, Passage, Visit, Call, Asked, Told, Body, Message, Tables}
 use Rattle.rules.specs.Limits.{clock_most, time_most, width_most, count_most, handle_most, site_most, slot_most, object_most}
 use Rattle.rules.specs.Loops.{every_up_to}
 use Rattle.rules.specs.Tables.{site_at, object_at, passage_at, message_at, past_figures, past_visit}
@@ -12,7 +12,7 @@ site_in_range s = leb s.clock clock_most
 
 -- "holder (a slot) or none"
 abbrev pub holder_in_range : Object → Bool
-holder_in_range o = elim o.holder [ Holder.Nobody ↦ true | Holder.Slot p ↦ leb p slot_most ]
+holder_in_range o = elim o.holder [ None ↦ true | Some p ↦ leb p slot_most ]
 
 -- "Value 0..1,000,000 (mm), holder (a slot) or none, and the value before the holder took it"
 abbrev pub object_in_range : Object → Bool

@@ -1,7 +1,7 @@
 -- The record: 16 bytes to a step, a step to 16 bytes, by one table of which fields each step names. Assumes nothing.
 -- "The record has bytes code, a, b, c; handle h in two bytes; two zero bytes; u and v in four bytes each; all little-endian."
-use Rattle.std.specs.Prelude.{ℕ, ◌+◌, ◌*◌, ◌-◌, ◌/◌, ◌%◌, Bool, cond, ◌&&◌, ◌||◌, List, [], ◌∷◌, ◌++◌, leb, eqb, get_or}
-use Rattle.rules.specs.Types.{Step, Fields, Reading, Tables, Refusal, Answer, Outcome}
+use Rattle.std.specs.Prelude.{ℕ, ◌+◌, ◌*◌, ◌-◌, ◌/◌, ◌%◌, Bool, cond, ◌&&◌, ◌||◌, List, [], ◌∷◌, ◌++◌, leb, eqb, get_or, Err, Some, None}
+use Rattle.rules.specs.Types.{Step, Fields, Reading, Tables, Refusal, Outcome}
 use Rattle.rules.specs.Machine.{step_in_range_of, unless_out_of_range}
 
 -- ---- numbers in bytes, little-endian
@@ -137,8 +137,8 @@ unfoldable pub step_of_fields : Fields → Reading
 step_of_fields f =
     cond
     (is_code f.code && fields_fit f)
-    (Reading.Known (get_or (steps_of f) (f.code - 1) (Step.Tick 0 0)))
-    Reading.Nothing
+    (Some (get_or (steps_of f) (f.code - 1) (Step.Tick 0 0)))
+    None
 
 unfoldable pub step_of_record : List ℕ → Reading
 step_of_record b = step_of_fields (fields_of b)
@@ -149,8 +149,8 @@ record_of_step s = bytes_of (kept_fields (flat_of s))
 -- ---- a record on the tables: 20, then 1, then the step
 
 abbrev pub reading_of : Tables → Reading → Outcome
-reading_of t Reading.Nothing = record { answer = Answer.Refused Refusal.NoStep; tables = t }
-reading_of t (Reading.Known step) = step_in_range_of t step
+reading_of t None = record { answer = Err Refusal.NoStep; tables = t }
+reading_of t (Some step) = step_in_range_of t step
 
 -- a record on tables that are in range
 unfoldable pub record_in_range_of : Tables → List ℕ → Outcome

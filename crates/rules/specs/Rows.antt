@@ -1,7 +1,7 @@
 -- What a row of a table of cases is, what the definitions give for it, and what it wants.
 -- A row has the tables that it begins with, the records, what each answers, and what the tables then hold where the row says so.
 -- A sheet row has a whole sheet and the bytes of its listing. Assumes nothing.
-use Rattle.std.specs.Prelude.{ℕ, ◌≡◌, refl, not, List, [], ◌∷◌, ◌++◌, map}
+use Rattle.std.specs.Prelude.{ℕ, ◌≡◌, refl, not, List, [], ◌∷◌, ◌++◌, map, Some, None}
 use Rattle.std.proofs.Common.{ap}
 use Rattle.rules.specs.Types.{Holder, Phase, Status, Tables, Step, Answer, Outcome}
 use Rattle.rules.specs.Tables.{start, site_at, object_at, passage_at, visit_at, message_at}
@@ -41,8 +41,8 @@ width k = one (λ t. (object_at t k).value)
 
 -- a slot, or 16 for nobody
 abbrev pub holder_number : Holder → ℕ
-holder_number Holder.Nobody = 16
-holder_number (Holder.Slot p) = p
+holder_number None = 16
+holder_number (Some p) = p
 
 abbrev pub holder : ℕ → Holder → Fact
 holder k h = one (λ t. holder_number (object_at t k).holder) (holder_number h)

@@ -1,6 +1,6 @@
 -- The sheet: "heading (any bytes, not read), records of 16 bytes, trailer of 8 bytes". Assumes nothing.
-use Rattle.std.specs.Prelude.{ℕ, zero, suc, ◌+◌, ◌*◌, ◌-◌, ◌%◌, Bool, cond, not, ◌&&◌, ◌||◌, List, [], ◌∷◌, ◌++◌, ltb, eqb, length, get_or, take, drop}
-use Rattle.rules.specs.Types.{SheetAnswer}
+use Rattle.std.specs.Prelude.{ℕ, zero, suc, ◌+◌, ◌*◌, ◌-◌, ◌%◌, Bool, cond, not, ◌&&◌, ◌||◌, List, [], ◌∷◌, ◌++◌, ltb, eqb, length, get_or, take, drop, Ok, Err}
+use Rattle.rules.specs.Types.{SheetAnswer, SheetRefusal}
 use Rattle.rules.specs.Record.{long_of}
 
 -- "At most 65,536 bytes"
@@ -27,33 +27,30 @@ unfoldable pub sheet_answer : List ℕ → SheetAnswer
 sheet_answer b =
     cond
     (ltb sheet_most (length b))
-    SheetAnswer.TooLong
+    (Err SheetRefusal.TooLong)
     (cond
     (ltb (length b) 8)
-    SheetAnswer.TooShort
+    (Err SheetRefusal.TooShort)
     (cond
     (not (has_mark b))
-    SheetAnswer.BadMark
+    (Err SheetRefusal.BadMark)
     (cond
     (not (eqb (distance_of b % 16) 0) || ltb (trailer_at b) (distance_of b))
-    SheetAnswer.BadDistance
-    SheetAnswer.Taken)))
+    (Err SheetRefusal.BadDistance)
+    (Ok tt))))
 
 -- 0 for a sheet that is taken
 abbrev pub sheet_number : SheetAnswer → ℕ
-sheet_number SheetAnswer.Taken = 0
-sheet_number SheetAnswer.TooLong = 1
-sheet_number SheetAnswer.TooShort = 2
-sheet_number SheetAnswer.BadMark = 3
-sheet_number SheetAnswer.BadDistance = 4
+sheet_number (Ok u) = 0
+sheet_number (Err SheetRefusal.TooLong) = 1
+sheet_number (Err SheetRefusal.TooShort) = 2
+sheet_number (Err SheetRefusal.BadMark) = 3
+sheet_number (Err SheetRefusal.BadDistance) = 4
 
 -- "the part of the caller's bytes that holds the records"; none of a refused sheet
 abbrev pub record_part : SheetAnswer → List ℕ → List ℕ
-record_part SheetAnswer.Taken b = take (distance_of b) (drop (trailer_at b - distance_of b) b)
-record_part SheetAnswer.TooLong b = []
-record_part SheetAnswer.TooShort b = []
-record_part SheetAnswer.BadMark b = []
-record_part SheetAnswer.BadDistance b = []
+record_part (Ok u) b = take (distance_of b) (drop (trailer_at b - distance_of b) b)
+record_part (Err r) b = []
 
 unfoldable pub sheet_records : List ℕ → List ℕ
 sheet_records b = record_part (sheet_answer b) b

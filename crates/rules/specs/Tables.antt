@@ -1,7 +1,7 @@
 -- The tables of document 01: how a place is read and stored, and what an empty one holds.
 -- `past_x` is what an index past the end reads; it is never met at the lengths 8, 32, 16, 128 and 32. `no_x` is an emptied place. Assumes nothing.
-use Rattle.std.specs.Prelude.{ℕ, ◌+◌, ◌*◌, ◌/◌, ◌%◌, true, false, List, [], ◌∷◌, get_or, set, replicate}
-use Rattle.rules.specs.Types.{Site, Holder, Object, Figures, Kind, Phase, Round, Status, Passage, Visit, Body, Message, Tables}
+use Rattle.std.specs.Prelude.{ℕ, ◌+◌, ◌*◌, ◌/◌, ◌%◌, true, false, List, [], ◌∷◌, get_or, set, replicate, None}
+use Rattle.rules.specs.Types.{Site, Object, Figures, Kind, Phase, Round, Status, Passage, Visit, Body, Message, Tables}
 
 -- ---- what an index past the end reads
 
@@ -9,7 +9,7 @@ abbrev pub past_site : Site
 past_site = record { clock = 0; up = false }
 
 abbrev pub past_object : Object
-past_object = record { value = 0; holder = Holder.Nobody; before = 0 }
+past_object = record { value = 0; holder = None; before = 0 }
 
 abbrev pub past_figures : Figures
 past_figures = record { sent = []; received = 0; quiesce = 0 }
@@ -42,7 +42,7 @@ past_message = record { body = Body.Empty; source = 0; destination = 0; handle =
 -- ---- "A visit place, message slot or passage slot that is emptied becomes all 0 but for the generation."
 
 abbrev pub no_object : Object
-no_object = record { value = 0; holder = Holder.Nobody; before = 0 }
+no_object = record { value = 0; holder = None; before = 0 }
 
 -- a count of 0 for each of the eight sites
 abbrev pub no_counts : List ℕ

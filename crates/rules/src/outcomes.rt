@@ -22,18 +22,8 @@ pub enum Refusal {
     NoRoundLeft,
 }
 
-#[derive(Clone, Copy)]
-pub enum Answer {
-    Accepted(u64),
-    Refused(Refusal),
-}
-
-// One line of the refusal table at a step: if it holds, this is the refusal.
-#[derive(Clone, Copy)]
-pub struct Check {
-    pub holds: bool,
-    pub gives: Refusal,
-}
+// An accepted step answers a value.
+pub type Answer = Result<u64, Refusal>;
 
 // What a step decides from what it saw: its answer, and the records that it leaves.
 #[derive(Clone, Copy)]

@@ -77,19 +77,14 @@ pub struct Fields {
     pub v: u32,
 }
 
-// What a record of 16 bytes stands for: a step, or none (refusal 1).
+// The four refusals of a sheet, in their order.
 #[derive(Clone, Copy)]
-pub enum Reading {
-    Nothing,
-    Known(Step),
-}
-
-// What a sheet's reader says of it: taken, or one of the four sheet refusals in their order.
-#[derive(Clone, Copy)]
-pub enum SheetAnswer {
-    Taken,
+pub enum SheetRefusal {
     TooLong,
     TooShort,
     BadMark,
     BadDistance,
 }
+
+// What a sheet's reader says of it: taken, or refused.
+pub type SheetAnswer = Result<(), SheetRefusal>;

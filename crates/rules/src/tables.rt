@@ -8,18 +8,11 @@ pub struct Site {
     pub up: bool,
 }
 
-// Who holds an object: a passage slot, 0..15, or nobody.
-#[derive(Clone, Copy)]
-pub enum Holder {
-    Nobody,
-    Slot(u8),
-}
-
-// A width figure in mm, 0..1,000,000, its holder, and the value before the holder took it.
+// A width figure in mm, 0..1,000,000, the passage slot that holds it, 0..15, if one does, and the value before the holder took it.
 #[derive(Clone, Copy)]
 pub struct Object {
     pub value: u32,
-    pub holder: Holder,
+    pub holder: Option<u8>,
     pub before: u32,
 }
 
@@ -40,7 +33,7 @@ pub enum Kind {
     Prepare,
 }
 
-#[derive(Clone, Copy)]
+#[derive(Clone, Copy, PartialEq)]
 pub enum Phase {
     None,
     One,
@@ -57,7 +50,7 @@ pub struct Round {
     pub figures: [Figures; 8],
 }
 
-#[derive(Clone, Copy)]
+#[derive(Clone, Copy, PartialEq)]
 pub enum Status {
     Free,
     Active,

@@ -7,8 +7,8 @@ use mathlib.Core.Bool.{true}
 use mathlib.Core.List.{List, [], ◌∷◌}
 use lib.ListN.{length}
 use Rattle.rules.specs.declared.tables.Tables.{Tables}
-use Rattle.rules.specs.declared.steps.Reading.{Reading}
-use Rattle.rules.specs.declared.outcomes.Answer.{Answer}
+use Rattle.rules.specs.Types.{Reading}
+use Rattle.rules.specs.Types.{Answer}
 use Rattle.rules.specs.declared.outcomes.Outcome.{Outcome}
 use Rattle.rules.specs.Ranges.{in_range}
 use Rattle.rules.proofs.RangesKept.{start_in_range, in_range_after_record}

@@ -7,7 +7,7 @@ use Rattle.std.proofs.Math.ListN.{get_or-append}
 use Rattle.std.proofs.Math.Seq.{get_or-append_seam}
 use Rattle.rules.specs.LoopsLaws.{below_or_last}
 use Rattle.rules.specs.declared.tables.Tables.{Tables}
-use Rattle.rules.specs.declared.outcomes.Answer.{Answer}
+use Rattle.rules.specs.Types.{Answer}
 use Rattle.rules.specs.Tables.{start}
 use Rattle.rules.specs.Answers.{answer_number, answer_value}
 use Rattle.rules.specs.Record.{step_record_of}

@@ -28,7 +28,7 @@ fn put_answer(out: &mut [u64], at: usize, answer: Answer)
     requires { at + 2 ≤ length out.old }
     ensures { Puts out.old at (answer_number answer ∷ answer_value answer ∷ []) out.new (at + 2) }
 {
-    let Answer::Accepted(value) = answer else {
+    let Ok(value) = answer else {
         out[at] = answer_number(answer);
         out[at + 1] = 0;
         return;
@@ -76,7 +76,7 @@ pub fn run(part: &[u8], n: usize, out: &mut [u64]) -> Tables
             rest = next_rest;
             k += 1;
         }
-        let mut answer = Answer::Refused(Refusal::NoStep);
+        let mut answer = Err(Refusal::NoStep);
         let mut turn: usize = 0;
         let mut last: usize = 1;
         while turn < last {

@@ -14,7 +14,7 @@ pub use Rattle.rules.specs.declared.tables.Body.{Body}
 pub use Rattle.rules.specs.declared.tables.Message.{Message}
 pub use Rattle.rules.specs.declared.tables.Tables.{Tables}
 pub use Rattle.rules.specs.declared.steps.Step.{Step}
-pub use Rattle.rules.specs.declared.outcomes.Answer.{Answer}
+pub use Rattle.rules.specs.Types.{Answer}
 pub use Rattle.rules.specs.declared.looking.Look.{Look}
 pub use Rattle.rules.specs.declared.looking.Places.{Places}
 pub use Rattle.rules.specs.declared.looking.Found.{Found}

@@ -94,7 +94,7 @@ pub fn put_record(out: &mut [u8], at: usize, bytes: [u8; 16]) -> usize
     ensures { Puts out.old at (record_text bytes) out.new result }
 {
     match read_record(bytes) {
-        Reading::Nothing => put_raw(out, at, bytes),
-        Reading::Known(s) => put_step(out, at, s),
+        None => put_raw(out, at, bytes),
+        Some(s) => put_step(out, at, s),
     }
 }

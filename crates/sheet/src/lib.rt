@@ -38,26 +38,26 @@ pub fn sheet_answer(b: &[u8]) -> SheetAnswer
     ensures { result ≡ sheet_answer b.now }
 {
     if 65536 < b.len() {
-        return SheetAnswer::TooLong;
+        return Err(SheetRefusal::TooLong);
     }
     if b.len() < 8 {
-        return SheetAnswer::TooShort;
+        return Err(SheetRefusal::TooShort);
     }
     if !has_mark(b) {
-        return SheetAnswer::BadMark;
+        return Err(SheetRefusal::BadMark);
     }
     let back = distance(b);
     if (back % 16 != 0) | (b.len() - 8 < back) {
-        return SheetAnswer::BadDistance;
+        return Err(SheetRefusal::BadDistance);
     }
-    SheetAnswer::Taken
+    Ok(())
 }
 
 // The part of the caller's own bytes that holds the records; the empty part of a refused sheet.
 pub fn sheet_records(b: &[u8]) -> &[u8]
     ensures { result.now ≡ sheet_records b.now }
 {
-    let SheetAnswer::Taken = sheet_answer(b) else {
+    let Ok(()) = sheet_answer(b) else {
         return &b[..0];
     };
     let to = b.len() - 8;
@@ -96,10 +96,10 @@ pub fn sheet_number(answer: SheetAnswer) -> u64
     ensures { result ≡ sheet_number answer }
 {
     match answer {
-        SheetAnswer::Taken => 0,
-        SheetAnswer::TooLong => 1,
-        SheetAnswer::TooShort => 2,
-        SheetAnswer::BadMark => 3,
-        SheetAnswer::BadDistance => 4,
+        Ok(()) => 0,
+        Err(SheetRefusal::TooLong) => 1,
+        Err(SheetRefusal::TooShort) => 2,
+        Err(SheetRefusal::BadMark) => 3,
+        Err(SheetRefusal::BadDistance) => 4,
     }
 }

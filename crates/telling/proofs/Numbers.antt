@@ -1,4 +1,5 @@
 -- The two numbers of an answer tell it, since no refusal has the number 0; and every refusal has a phrase. Assumes nothing.
+use Rattle.std.specs.Prelude.{Ok, Err}
 use Prim.Native.Nat.{ℕ}
 use mathlib.Core.Path.{◌≡◌, refl, subst}
 use mathlib.Core.Bool.{Bool, true, false, not, ◌&&◌, false≢true}
@@ -8,7 +9,7 @@ use lib.Dec.{eqb}
 use lib.ListN.{length}
 use denote.Struct.Field.{Field}
 use denote.Enum.Declared.{Choice}
-use Rattle.rules.specs.declared.outcomes.Answer.{Answer}
+use Rattle.rules.specs.Types.{Answer}
 use Rattle.rules.specs.declared.outcomes.Refusal.{Refusal}
 use Rattle.rules.specs.contracts.outcomes.Refusal.{the_parts as parts, as_values, the_make as make, the_eta as eta}
 use Rattle.rules.specs.Answers.{refusal_number, answer_number, answer_value}
@@ -44,8 +45,8 @@ unfolding refusal_phrases
 refusal_has_phrase = every_refusal (λ r. not (eqb (length (refusal_phrase (refusal_number r))) 0)) refl
 
 numbers_told_lem : (a : Answer) → numbers_told (answer_number a) (answer_value a) ≡ answer_told a
-numbers_told_lem (Answer.Accepted v) = refl
-numbers_told_lem (Answer.Refused r) = rw (not_true (eqb (refusal_number r) 0) (refused_not_zero r))
+numbers_told_lem (Ok v) = refl
+numbers_told_lem (Err r) = rw (not_true (eqb (refusal_number r) 0) (refused_not_zero r))
 
 pub line_told :
     (place : ℕ) (bytes : List ℕ) (a : Answer) → numbers_told_line place bytes (answer_number a) (answer_value a) ≡ told_line place bytes a

@@ -1,10 +1,10 @@
 -- At most how long the texts are: a record's line has at most 128 bytes, its place being at most 9,999. Assumes nothing.
-use Rattle.std.specs.Prelude.{ℕ, zero, suc, ◌+◌, ◌*◌, ◌/◌, ◌%◌, ◌≤◌, ◌<◌, ◌≡◌, refl, Bool, cond, List, [], ◌∷◌, ◌++◌, ltb, eqb, length, get_or, drop}
+use Rattle.std.specs.Prelude.{ℕ, zero, suc, ◌+◌, ◌*◌, ◌/◌, ◌%◌, ◌≤◌, ◌<◌, ◌≡◌, refl, Bool, cond, List, [], ◌∷◌, ◌++◌, ltb, eqb, length, get_or, drop, Ok, Err, Some, None}
 use Rattle.std.proofs.Common.{arith, ⊎_elim, lt-ltb, ltb-true, ltb-false, length-append, length-take, length-drop, get_or-take, get_or-drop}
 use Rattle.std.proofs.Math.ListN.{get_or-eq_default}
 use Rattle.rules.specs.declared.steps.Step.{Step}
-use Rattle.rules.specs.declared.steps.Reading.{Reading}
-use Rattle.rules.specs.declared.steps.SheetAnswer.{SheetAnswer}
+use Rattle.rules.specs.Types.{Reading}
+use Rattle.rules.specs.Types.{SheetAnswer, SheetRefusal}
 use Rattle.rules.specs.Listing.{spelt, digits_of, decimal_of}
 use Rattle.rules.proofs.ListingLaws.{digits_length}
 use Rattle.rules.specs.LoopsLaws.{either, cond_keeps}
@@ -85,8 +85,8 @@ unfolding raw_text spelt
 raw_short b e = omega (arith, hex_length b, e)
 
 by_short : (r : Reading) (b : List ℕ) → Bytes16 b → step_of_record b ≡ r → length (record_by r b) ≤ 66
-by_short Reading.Nothing b w e = raw_short b w.sixteen
-by_short (Reading.Known s) b w e = step_short s (read_fits b w s e)
+by_short None b w e = raw_short b w.sixteen
+by_short (Some s) b w e = step_short s (read_fits b w s e)
 
 -- the words of a record have at most 66 bytes
 pub record_short : (b : List ℕ) → Bytes16 b → length (record_text b) ≤ 66
@@ -127,11 +127,11 @@ told_length n v = cond_length (eqb n 0) (accepted_told v) (refused_told n) 56 (o
 -- ---- the line of a refused sheet
 
 pub sheet_phrase_length : (a : SheetAnswer) → length (sheet_phrase a) ≤ 17
-sheet_phrase_length SheetAnswer.Taken = omega arith
-sheet_phrase_length SheetAnswer.TooLong = omega arith
-sheet_phrase_length SheetAnswer.TooShort = omega arith
-sheet_phrase_length SheetAnswer.BadMark = omega arith
-sheet_phrase_length SheetAnswer.BadDistance = omega arith
+sheet_phrase_length (Ok u) = omega arith
+sheet_phrase_length (Err SheetRefusal.TooLong) = omega arith
+sheet_phrase_length (Err SheetRefusal.TooShort) = omega arith
+sheet_phrase_length (Err SheetRefusal.BadMark) = omega arith
+sheet_phrase_length (Err SheetRefusal.BadDistance) = omega arith
 
 -- ---- the line of a record
 

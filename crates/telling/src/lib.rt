@@ -105,11 +105,11 @@ fn put_sheet_phrase(out: &mut [u8], at: usize, a: SheetAnswer) -> usize
     ensures { Puts out.old at (sheet_phrase a) out.new result }
 {
     match a {
-        SheetAnswer::Taken => put_text(out, at, b"taken"),
-        SheetAnswer::TooLong => put_text(out, at, b"over 65536 bytes"),
-        SheetAnswer::TooShort => put_text(out, at, b"under 8 bytes"),
-        SheetAnswer::BadMark => put_text(out, at, b"mark is wrong"),
-        SheetAnswer::BadDistance => put_text(out, at, b"distance is wrong"),
+        Ok(()) => put_text(out, at, b"taken"),
+        Err(SheetRefusal::TooLong) => put_text(out, at, b"over 65536 bytes"),
+        Err(SheetRefusal::TooShort) => put_text(out, at, b"under 8 bytes"),
+        Err(SheetRefusal::BadMark) => put_text(out, at, b"mark is wrong"),
+        Err(SheetRefusal::BadDistance) => put_text(out, at, b"distance is wrong"),
     }
 }
 
@@ -184,7 +184,7 @@ pub fn tell(sheet: &[u8], out: &mut [u8; 524288]) -> usize
     ensures { Puts out.old 0 (sheet_told sheet.now) out.new result × (result ≤ length out.new) }
 {
     let answer = sheet_answer(sheet);
-    let SheetAnswer::Taken = answer else {
+    let Ok(()) = answer else {
         return put_refused_sheet(out, answer);
     };
     let part = sheet_records(sheet);
@@ -199,7 +199,7 @@ pub fn tell_plain(sheet: &[u8], out: &mut [u8; 524288]) -> usize
     ensures { Puts out.old 0 (plain_of sheet.now) out.new result × (result ≤ length out.new) }
 {
     let answer = sheet_answer(sheet);
-    let SheetAnswer::Taken = answer else {
+    let Ok(()) = answer else {
         return put_refused_sheet(out, answer);
     };
     let part = sheet_records(sheet);

@@ -1,7 +1,7 @@
 -- The second table of cases, commits: what a crew writes at several stations stands together, and another passage reads it.
 -- The answers were worked out by hand from the two documents; a clock beside a line is that of the acting station after it. Assumes nothing.
-use Rattle.std.specs.Prelude.{◌≡◌, refl, List, [], ◌∷◌, ◌++◌, map}
-use Rattle.trials.specs.Types.{Holder, Phase, Status, Step}
+use Rattle.std.specs.Prelude.{◌≡◌, refl, List, [], ◌∷◌, ◌++◌, map, Some, None}
+use Rattle.trials.specs.Types.{Phase, Status, Step}
 use Rattle.rules.specs.Rows.{Row, Line, ◌gives◌, ◌refused_by◌, lines, clock, width, holder, before, status, generation, round, visit, unvisited, prepared, sent, found, wanted}
 
 -- home 3, slot 5: writes at stations 7, 2 and 3, of 1,000,000, 23,456 and 4,321 mm
@@ -249,10 +249,10 @@ abbrev pub commit_rows : List Row
 commit_rows =
     -- two writes at two stations and one at home are committed and read back; the slot is retired and used again
     lines (crew_writes ++ crew_commits ++ check_reads ++ slot_used_again)
-    (clock 3 20 ∷ clock 2 20 ∷ clock 7 17 ∷ clock 6 21 ∷ width 29 1000000 ∷ holder 29 (Holder.Slot 9) ∷ before 29 1000000 ∷ width 9 23456
-    ∷ holder 9 (Holder.Slot 9)
+    (clock 3 20 ∷ clock 2 20 ∷ clock 7 17 ∷ clock 6 21 ∷ width 29 1000000 ∷ holder 29 (Some 9) ∷ before 29 1000000 ∷ width 9 23456
+    ∷ holder 9 (Some 9)
     ∷ width 13 4321
-    ∷ holder 13 (Holder.Slot 5)
+    ∷ holder 13 (Some 5)
     ∷ status 5 Status.Active
     ∷ generation 5 1
     ∷ status 9 Status.Active
@@ -271,7 +271,7 @@ commit_rows =
     ∷ visit 7 15 60 600 3 1
     ∷ prepared 7 15 1
     ∷ width 22 1234
-    ∷ holder 22 (Holder.Slot 15)
+    ∷ holder 22 (Some 15)
     ∷ before 22 0
     ∷ [])
     ∷ []
@@ -280,7 +280,7 @@ abbrev pub count_rows : List Row
 count_rows =
     -- five calls to one station, and the commit closes
     lines five_calls
-    (clock 4 21 ∷ clock 7 20 ∷ width 17 40000 ∷ holder 17 Holder.Nobody ∷ before 17 0 ∷ status 4 Status.Committed ∷ unvisited 4 4 ∷ [])
+    (clock 4 21 ∷ clock 7 20 ∷ width 17 40000 ∷ holder 17 None ∷ before 17 0 ∷ status 4 Status.Committed ∷ unvisited 4 4 ∷ [])
     -- a passage over all eight stations, in which calls go on from station to station
     ∷ lines (ring_out ++ ring_back ++ ring_asked ++ ring_told)
     (clock 0 42 ∷ clock 1 41 ∷ clock 2 40 ∷ clock 3 39 ∷ clock 4 38 ∷ clock 5 37 ∷ clock 6 36 ∷ clock 7 41 ∷ width 1 100
@@ -290,9 +290,9 @@ count_rows =
     ∷ width 17 40004
     ∷ width 21 50005
     ∷ width 25 60006
-    ∷ holder 1 Holder.Nobody
-    ∷ holder 25 Holder.Nobody
-    ∷ holder 29 Holder.Nobody
+    ∷ holder 1 None
+    ∷ holder 25 None
+    ∷ holder 29 None
     ∷ generation 13 1
     ∷ [])
     ∷ []

@@ -1,9 +1,9 @@
 -- The second table of cases, crashes: a station that is down, and a visit that is dead.
 -- The answers were worked out by hand from the two documents; a clock beside a line is that of the acting station after it. Assumes nothing.
-use Rattle.std.specs.Prelude.{◌≡◌, refl, true, false, List, [], ◌∷◌, ◌++◌, map}
+use Rattle.std.specs.Prelude.{◌≡◌, refl, true, false, List, [], ◌∷◌, ◌++◌, map, Some, None}
 use Rattle.rules.specs.Tables.{start, free_slot, put_passage, put_visit}
 use Rattle.rules.specs.Parts.{with_home, with_status, quieted, new_visit}
-use Rattle.trials.specs.Types.{Holder, Phase, Status, Tables, Step}
+use Rattle.trials.specs.Types.{Phase, Status, Tables, Step}
 use Rattle.rules.specs.Rows.{Row, Line, ◌gives◌, ◌refused_by◌, lines_on, lines, clock, up, width, holder, status, generation, round, visit, unvisited, prepared, dead, mail, found, wanted}
 
 -- home 2, slot 6: station 6 goes down; 4 until it is up again, then its visit is dead, to calls and to every round but a terminate
@@ -233,7 +233,7 @@ crash_rows =
     (clock 2 14 ∷ clock 6 13 ∷ up 6 1 ∷ visit 6 6 4 400 3 1 ∷ dead 6 6 1 ∷ prepared 6 6 0 ∷ visit 2 6 8 600 3 0 ∷ dead 2 6 0
     ∷ prepared 2 6 0
     ∷ width 25 7777
-    ∷ holder 25 (Holder.Slot 6)
+    ∷ holder 25 (Some 6)
     ∷ status 6 Status.Aborted
     ∷ round 6 3 Phase.One
     ∷ mail 0 1
@@ -251,7 +251,7 @@ crash_rows =
     ∷ [])
     -- and comes up again
     ∷ lines (home_down ++ home_up)
-    (clock 5 14 ∷ clock 1 10 ∷ up 5 1 ∷ width 20 11111 ∷ holder 20 Holder.Nobody ∷ status 2 Status.Free ∷ generation 2 1
+    (clock 5 14 ∷ clock 1 10 ∷ up 5 1 ∷ width 20 11111 ∷ holder 20 None ∷ status 2 Status.Free ∷ generation 2 1
     ∷ generation 3 1
     ∷ unvisited 5 2
     ∷ unvisited 5 3
@@ -268,7 +268,7 @@ crash_rows =
     -- a crash of home after the close of a commit
     ∷ lines closed_down
     (clock 2 12 ∷ clock 1 13 ∷ status 5 Status.Committed ∷ round 5 1 Phase.Two ∷ unvisited 2 5 ∷ unvisited 1 5 ∷ width 7 770
-    ∷ holder 7 Holder.Nobody
+    ∷ holder 7 None
     ∷ [])
     ∷ []
 
@@ -280,14 +280,14 @@ outage_rows =
     -- calls from a home that is down, and toward it
     ∷ lines called_while_down
     (clock 4 5 ∷ clock 7 4 ∷ status 6 Status.Aborted ∷ visit 4 6 3 70 0 0 ∷ dead 4 6 1 ∷ visit 7 6 60 70 0 1 ∷ dead 7 6 0 ∷ width 31 310
-    ∷ holder 31 (Holder.Slot 6)
+    ∷ holder 31 (Some 6)
     ∷ mail 0 0
     ∷ mail 1 1
     ∷ [])
     -- a dead visit is told of a terminate
     ∷ lines dead_is_told
     (clock 1 10 ∷ clock 6 11 ∷ status 5 Status.Aborted ∷ round 5 1 Phase.Two ∷ visit 1 5 3 4 1 0 ∷ unvisited 6 5 ∷ width 24 0
-    ∷ holder 24 Holder.Nobody
+    ∷ holder 24 None
     ∷ mail 0 0
     ∷ mail 1 0
     ∷ [])

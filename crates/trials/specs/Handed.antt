@@ -1,6 +1,6 @@
 -- The second table of cases, tables that are handed in out of range: 20, before all else. The number stands at the end of its table, or next to it.
 -- The answers were worked out by hand from the two documents. Assumes nothing.
-use Rattle.std.specs.Prelude.{ℕ, true, false, ◌≡◌, refl, List, [], ◌∷◌, map, replicate, set}
+use Rattle.std.specs.Prelude.{ℕ, true, false, ◌≡◌, refl, List, [], ◌∷◌, map, replicate, set, Some, None}
 use Rattle.rules.specs.Tables.{start, no_counts, no_round, put_passage, put_visit, put_message}
 use Rattle.rules.specs.Parts.{plain_message}
 use Rattle.rules.specs.Record.{record_of_step}
@@ -110,7 +110,7 @@ all_highest =
     (visit_on
     (figures_on
     (round_on
-    (object_on (start_at 7 2000000000) 1000000 (Holder.Slot 15) 1000000)
+    (object_on (start_at 7 2000000000) 1000000 (Some 15) 1000000)
     7
     1000
     (Kind.Refresh 999999990 1000000000)
@@ -135,14 +135,14 @@ abbrev pub handed_rows : List Row
 handed_rows =
     -- a width of 1,000,001, with a step, and with a record that would be refused by 1
     run_on
-    (object_on start 1000001 Holder.Nobody 0)
+    (object_on start 1000001 None 0)
     (record_of_step (Step.Tick 3 5) ∷ replicate 16 0 ∷ [])
     (refused 20 ∷ refused 20 ∷ [])
     (clock 3 0 ∷ [])
-    ∷ within_range (object_on start 1000000 Holder.Nobody 0)
+    ∷ within_range (object_on start 1000000 None 0)
     -- a value before, and a holder
-    ∷ out_of_range (object_on start 0 (Holder.Slot 3) 1000001)
-    ∷ out_of_range (object_on start 0 (Holder.Slot 16) 0)
+    ∷ out_of_range (object_on start 0 (Some 3) 1000001)
+    ∷ out_of_range (object_on start 0 (Some 16) 0)
     -- a clock of 2,000,000,001
     ∷ out_of_range (start_at 7 2000000001)
     -- kind none in phase 1, and in phase 2

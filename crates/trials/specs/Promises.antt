@@ -1,7 +1,7 @@
 -- The second table of cases, promises: one that is given again, a call before one is given, and four widths that stand or fall together.
 -- The answers were worked out by hand from the two documents; a clock beside a line is that of the acting station after it. Assumes nothing.
-use Rattle.std.specs.Prelude.{◌≡◌, refl, List, [], ◌∷◌, ◌++◌, map}
-use Rattle.trials.specs.Types.{Holder, Phase, Status, Step}
+use Rattle.std.specs.Prelude.{◌≡◌, refl, List, [], ◌∷◌, ◌++◌, map, Some, None}
+use Rattle.trials.specs.Types.{Phase, Status, Step}
 use Rattle.rules.specs.Rows.{Row, Line, ◌gives◌, ◌refused_by◌, lines, clock, width, holder, before, status, round, visit, unvisited, prepared, sent, found, wanted}
 
 -- home 5, slot 0: station 0 gives its promise twice, as its first answer is dropped; a terminate does not come between
@@ -96,7 +96,7 @@ promise_rows =
     -- a promise is given again in the next round
     lines promised_twice
     (clock 5 12 ∷ clock 0 13 ∷ status 0 Status.Committed ∷ round 0 2 Phase.Two ∷ unvisited 5 0 ∷ unvisited 0 0 ∷ width 3 777
-    ∷ holder 3 Holder.Nobody
+    ∷ holder 3 None
     ∷ before 3 0
     ∷ [])
     -- a call of a committing passage, from a visit that has given no promise yet
@@ -104,14 +104,14 @@ promise_rows =
     (clock 2 10 ∷ clock 4 7 ∷ clock 5 8 ∷ status 9 Status.Committed ∷ visit 4 9 7 70 1 1 ∷ visit 5 9 8 70 1 1 ∷ prepared 5 9 1
     ∷ sent 4 9 (0 ∷ 0 ∷ 0 ∷ 0 ∷ 0 ∷ 1 ∷ 0 ∷ 0 ∷ [])
     ∷ width 20 1700
-    ∷ holder 20 (Holder.Slot 9)
+    ∷ holder 20 (Some 9)
     ∷ [])
     -- the four objects of one station, in one passage
     ∷ lines (four_gates ++ four_restored)
-    (clock 3 16 ∷ clock 7 131 ∷ width 28 2800 ∷ width 29 2900 ∷ width 30 3000 ∷ width 31 3100 ∷ holder 28 Holder.Nobody
-    ∷ holder 29 Holder.Nobody
-    ∷ holder 30 Holder.Nobody
-    ∷ holder 31 Holder.Nobody
+    (clock 3 16 ∷ clock 7 131 ∷ width 28 2800 ∷ width 29 2900 ∷ width 30 3000 ∷ width 31 3100 ∷ holder 28 None
+    ∷ holder 29 None
+    ∷ holder 30 None
+    ∷ holder 31 None
     ∷ before 28 0
     ∷ before 31 0
     ∷ status 4 Status.Committed

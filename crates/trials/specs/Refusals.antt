@@ -1,9 +1,9 @@
 -- The second table of cases, refusals: a field that no step has, a field out of range, a wrong state, the last clock, call and round.
 -- The answers were worked out by hand from documents 01 and 02; a clock beside a line is that of the acting station after it. Assumes nothing.
-use Rattle.std.specs.Prelude.{ℕ, true, false, ◌≡◌, refl, List, [], ◌∷◌, ◌++◌, map, replicate, set}
+use Rattle.std.specs.Prelude.{ℕ, true, false, ◌≡◌, refl, List, [], ◌∷◌, ◌++◌, map, replicate, set, Some, None}
 use Rattle.rules.specs.Tables.{start, no_counts, no_round, put_site, put_passage, put_visit}
 use Rattle.rules.specs.Rows.{Row, Line, ◌gives◌, ◌refused_by◌, run, accepted, refused, lines_on, lines, clock, holder, status, generation, round, visit, unvisited, sent, mail, post, found, wanted}
-use Rattle.trials.specs.Types.{Holder, Kind, Phase, Status, Tables, Step}
+use Rattle.trials.specs.Types.{Kind, Phase, Status, Tables, Step}
 use Rattle.trials.specs.Mail.{calls_up_to}
 
 -- ---- 1, byte by byte: "code unknown, or an unnamed field isn't 0"
@@ -329,7 +329,7 @@ refusal_rows =
     -- 8
     ∷ lines on_time (clock 5 20 ∷ clock 0 30 ∷ status 3 Status.Free ∷ generation 3 1 ∷ [])
     -- 8 and 10, 4 and 5
-    ∷ lines which_first (clock 3 9 ∷ clock 1 4 ∷ clock 0 1 ∷ holder 15 (Holder.Slot 3) ∷ unvisited 3 4 ∷ mail 0 0 ∷ mail 1 1 ∷ post 1 2 3 4 2 ∷ [])
+    ∷ lines which_first (clock 3 9 ∷ clock 1 4 ∷ clock 0 1 ∷ holder 15 (Some 3) ∷ unvisited 3 4 ∷ mail 0 0 ∷ mail 1 1 ∷ post 1 2 3 4 2 ∷ [])
     -- generation 255 is followed by 0
     ∷ lines_on
     last_generation
@@ -357,7 +357,7 @@ limit_rows =
     ∷ lines_on (counts_at 1000) full_first (clock 2 1033 ∷ sent 2 3 (33 ∷ 0 ∷ 0 ∷ 0 ∷ 0 ∷ 0 ∷ 0 ∷ 1000 ∷ []) ∷ mail 30 1 ∷ mail 31 0 ∷ [])
     -- 10 before 13
     ∷ lines_on (counts_at 1000) held_first
-    (clock 2 1006 ∷ visit 2 3 500 600 1000 1000 ∷ holder 8 (Holder.Slot 4) ∷ holder 9 Holder.Nobody ∷ mail 0 1 ∷ mail 1 1 ∷ [])
+    (clock 2 1006 ∷ visit 2 3 500 600 1000 1000 ∷ holder 8 (Some 4) ∷ holder 9 None ∷ mail 0 1 ∷ mail 1 1 ∷ [])
     ∷ []
 
 -- every refusal is as documents 01 and 02 say

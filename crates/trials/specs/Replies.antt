@@ -1,9 +1,9 @@
 -- The second table of cases, replies: what a delivered call leaves in its slot, where that goes, and what it gives there.
 -- The answers were worked out by hand from the two documents; a clock beside a line is that of the acting station after it. Assumes nothing.
-use Rattle.std.specs.Prelude.{ℕ, zero, suc, false, ◌≡◌, refl, List, [], ◌∷◌, ◌++◌, map}
+use Rattle.std.specs.Prelude.{ℕ, zero, suc, false, ◌≡◌, refl, List, [], ◌∷◌, ◌++◌, map, Some, None}
 use Rattle.rules.specs.Tables.{start, put_site}
 use Rattle.rules.specs.Rows.{Row, Line, ◌gives◌, ◌refused_by◌, lines_on, lines, clock, up, width, holder, before, status, generation, round, visit, unvisited, dead, sent, mail, post, found, wanted}
-use Rattle.trials.specs.Types.{Holder, Phase, Status, Tables, Step}
+use Rattle.trials.specs.Types.{Phase, Status, Tables, Step}
 use Rattle.trials.specs.Mail.{calls_up_to}
 use Rattle.trials.specs.Refusals.{start_at}
 use Rattle.trials.specs.Handed.{reply_on}
@@ -255,7 +255,7 @@ reply_rows =
     ∷ [])
     -- what a reply carries, of a read and of a write
     ∷ lines widths_back
-    (clock 1 13 ∷ clock 3 12 ∷ width 14 1000000 ∷ holder 14 (Holder.Slot 6) ∷ before 14 0 ∷ visit 1 6 60 70 0 0 ∷ visit 3 6 60 70 0 4
+    (clock 1 13 ∷ clock 3 12 ∷ width 14 1000000 ∷ holder 14 (Some 6) ∷ before 14 0 ∷ visit 1 6 60 70 0 0 ∷ visit 3 6 60 70 0 4
     ∷ sent 1 6 (0 ∷ 0 ∷ 0 ∷ 4 ∷ 0 ∷ 0 ∷ 0 ∷ 0 ∷ [])
     ∷ sent 3 6 (0 ∷ 0 ∷ 0 ∷ 0 ∷ 0 ∷ 0 ∷ 0 ∷ 0 ∷ [])
     ∷ round 6 0 Phase.None
@@ -281,13 +281,13 @@ late_reply_rows =
     (clock 3 10 ∷ clock 2 4 ∷ visit 3 7 10 20 0 0 ∷ mail 0 0 ∷ mail 1 0 ∷ [])
     -- after an abort, with no visit left
     ∷ lines swept_since
-    (clock 1 107 ∷ clock 4 105 ∷ status 13 Status.Aborted ∷ unvisited 1 13 ∷ unvisited 4 13 ∷ width 18 0 ∷ holder 18 Holder.Nobody
+    (clock 1 107 ∷ clock 4 105 ∷ status 13 Status.Aborted ∷ unvisited 1 13 ∷ unvisited 4 13 ∷ width 18 0 ∷ holder 18 None
     ∷ mail 0 0
     ∷ mail 1 0
     ∷ [])
     -- while a commit is open, and after it
     ∷ lines committed_since
-    (clock 0 12 ∷ clock 7 12 ∷ status 4 Status.Free ∷ generation 4 1 ∷ unvisited 0 4 ∷ unvisited 7 4 ∷ width 30 3000 ∷ holder 30 Holder.Nobody
+    (clock 0 12 ∷ clock 7 12 ∷ status 4 Status.Free ∷ generation 4 1 ∷ unvisited 0 4 ∷ unvisited 7 4 ∷ width 30 3000 ∷ holder 30 None
     ∷ mail 0 0
     ∷ mail 1 0
     ∷ mail 2 0

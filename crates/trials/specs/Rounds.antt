@@ -1,7 +1,7 @@
 -- The second table of cases, rounds: over four to seven stations, told again, and opened again after the first was closed.
 -- The answers were worked out by hand from the two documents; a clock beside a line is that of the acting station after it. Assumes nothing.
-use Rattle.std.specs.Prelude.{◌≡◌, refl, List, [], ◌∷◌, ◌++◌, map}
-use Rattle.trials.specs.Types.{Holder, Phase, Status, Step}
+use Rattle.std.specs.Prelude.{◌≡◌, refl, List, [], ◌∷◌, ◌++◌, map, Some, None}
+use Rattle.trials.specs.Types.{Phase, Status, Step}
 use Rattle.rules.specs.Rows.{Row, Line, ◌gives◌, ◌refused_by◌, lines, clock, width, holder, before, status, round, visit, unvisited, prepared, sent, mail, found, wanted}
 
 -- home 0, slot 6: nine calls to stations 0 to 4, of which each first reads 0 mm; the ninth is from station 4 to home
@@ -232,17 +232,17 @@ round_rows =
     ∷ prepared 4 6 1
     ∷ sent 4 6 (1 ∷ 0 ∷ 0 ∷ 0 ∷ 0 ∷ 0 ∷ 0 ∷ 0 ∷ [])
     ∷ width 0 100
-    ∷ holder 0 Holder.Nobody
+    ∷ holder 0 None
     ∷ width 6 600
     ∷ width 14 1400
     ∷ width 16 1600
-    ∷ holder 16 (Holder.Slot 6)
+    ∷ holder 16 (Some 6)
     ∷ before 16 0
     ∷ [])
     -- a station is told twice
     ∷ lines told_again
-    (clock 0 13 ∷ clock 1 14 ∷ status 2 Status.Committed ∷ unvisited 1 2 ∷ width 0 300 ∷ holder 0 Holder.Nobody ∷ width 6 700
-    ∷ holder 6 Holder.Nobody
+    (clock 0 13 ∷ clock 1 14 ∷ status 2 Status.Committed ∷ unvisited 1 2 ∷ width 0 300 ∷ holder 0 None ∷ width 6 700
+    ∷ holder 6 None
     ∷ before 6 0
     ∷ mail 0 0
     ∷ [])
@@ -255,10 +255,10 @@ terminate_rows =
     (clock 7 26 ∷ clock 6 217 ∷ clock 5 25 ∷ clock 1 18 ∷ status 8 Status.Aborted ∷ round 8 4 Phase.One ∷ unvisited 7 8 ∷ unvisited 6 8
     ∷ visit 5 8 17 150 4 2
     ∷ visit 1 8 18 150 2 1
-    ∷ holder 24 Holder.Nobody
-    ∷ holder 28 Holder.Nobody
+    ∷ holder 24 None
+    ∷ holder 28 None
     ∷ width 23 2300
-    ∷ holder 23 (Holder.Slot 8)
+    ∷ holder 23 (Some 8)
     ∷ before 23 0
     ∷ mail 0 0
     ∷ [])

@@ -1,5 +1,5 @@
 -- The types of `rules`, under short names. Assumes nothing.
-pub use Rattle.rules.specs.declared.tables.Holder.{Holder}
+pub use Rattle.rules.specs.Types.{Holder}
 pub use Rattle.rules.specs.declared.tables.Kind.{Kind}
 pub use Rattle.rules.specs.declared.tables.Phase.{Phase}
 pub use Rattle.rules.specs.declared.tables.Status.{Status}

@@ -1,7 +1,7 @@
 -- The second table of cases, what is undone: aborts and sweeps.
 -- The answers were worked out by hand from the two documents; a clock beside a line is that of the acting station after it. Assumes nothing.
-use Rattle.std.specs.Prelude.{ℕ, zero, suc, ◌≡◌, refl, List, [], ◌∷◌, ◌++◌, map}
-use Rattle.trials.specs.Types.{Holder, Phase, Status, Step}
+use Rattle.std.specs.Prelude.{ℕ, zero, suc, ◌≡◌, refl, List, [], ◌∷◌, ◌++◌, map, Some, None}
+use Rattle.trials.specs.Types.{Phase, Status, Step}
 use Rattle.rules.specs.Rows.{Row, Line, ◌gives◌, ◌refused_by◌, lines, clock, up, width, holder, before, status, generation, round, visit, unvisited, prepared, mail, found, wanted}
 
 -- home 7, slot 0: object 31 is committed at 3,210 mm, by home alone
@@ -246,7 +246,7 @@ undone_rows =
     -- an abort: two writes over a committed width are undone, and another passage reads that width
     lines
     (first_width ++ writes_undone ++ width_read_back)
-    (clock 7 22 ∷ clock 6 18 ∷ width 31 3210 ∷ holder 31 (Holder.Slot 3) ∷ before 31 3210 ∷ status 4 Status.Aborted
+    (clock 7 22 ∷ clock 6 18 ∷ width 31 3210 ∷ holder 31 (Some 3) ∷ before 31 3210 ∷ status 4 Status.Aborted
     ∷ round 4 1 Phase.Two
     ∷ visit 6 4 12 15 1 0
     ∷ unvisited 7 4
@@ -254,20 +254,20 @@ undone_rows =
     ∷ [])
     -- no sweep takes a prepared visit; a terminate takes the mark off
     ∷ lines promise_let_off
-    (clock 2 410 ∷ clock 5 413 ∷ width 10 0 ∷ holder 10 Holder.Nobody ∷ before 10 0 ∷ generation 1 1 ∷ mail 0 0 ∷ [])
+    (clock 2 410 ∷ clock 5 413 ∷ width 10 0 ∷ holder 10 None ∷ before 10 0 ∷ generation 1 1 ∷ mail 0 0 ∷ [])
     ∷ []
 
 abbrev pub sweep_rows : List Row
 sweep_rows =
     -- a sweep of two visits
     lines (four_visits ++ two_swept)
-    (clock 6 2000068 ∷ clock 0 1000065 ∷ width 24 0 ∷ holder 24 Holder.Nobody ∷ width 25 0 ∷ holder 25 Holder.Nobody
+    (clock 6 2000068 ∷ clock 0 1000065 ∷ width 24 0 ∷ holder 24 None ∷ width 25 0 ∷ holder 25 None
     ∷ status 0 Status.Free
     ∷ generation 0 1
     ∷ status 11 Status.Aborted
     ∷ status 13 Status.Aborted
     ∷ visit 0 13 1500000 2000000 0 1
-    ∷ holder 3 (Holder.Slot 13)
+    ∷ holder 3 (Some 13)
     ∷ [])
     -- a sweep away from home
     ∷ lines swept_away (clock 2 7 ∷ clock 4 204 ∷ status 9 Status.Active ∷ width 18 0 ∷ unvisited 4 9 ∷ [])
@@ -277,13 +277,13 @@ sweep_rows =
     ∷ lines (unasked ++ swept_unasked)
     (clock 1 54 ∷ clock 2 5 ∷ status 14 Status.Committing ∷ round 14 1 Phase.One ∷ unvisited 1 14 ∷ visit 2 14 5 20 1 0 ∷ prepared 2 14 1
     ∷ width 6 0
-    ∷ holder 6 Holder.Nobody
+    ∷ holder 6 None
     ∷ [])
     -- and of one that is aborted after its prepare, at clock 6
     ∷ lines (unasked ++ (Step.Abort 14 gives 0 ∷ []) ++ swept_unasked)
     (clock 1 54 ∷ clock 2 6 ∷ status 14 Status.Aborted ∷ round 14 1 Phase.None ∷ unvisited 1 14 ∷ visit 2 14 5 20 1 0 ∷ prepared 2 14 0
     ∷ width 6 0
-    ∷ holder 6 Holder.Nobody
+    ∷ holder 6 None
     ∷ [])
     -- a sweep of three visits
     ∷ lines three_swept
@@ -301,14 +301,14 @@ release_rows =
     ∷ unvisited 2 1
     ∷ unvisited 2 15
     ∷ width 11 0
-    ∷ holder 11 Holder.Nobody
+    ∷ holder 11 None
     ∷ [])
     -- a call of an aborted passage makes a visit, and its terminate finds it
     ∷ lines (called_unaware ++ unaware_swept)
     (clock 6 14 ∷ clock 3 8 ∷ clock 0 16 ∷ status 1 Status.Aborted ∷ round 1 1 Phase.Two ∷ visit 6 1 5 11 1 0 ∷ visit 3 1 8 70 1 1
     ∷ unvisited 0 1
     ∷ width 0 0
-    ∷ holder 0 Holder.Nobody
+    ∷ holder 0 None
     ∷ [])
     ∷ []
 

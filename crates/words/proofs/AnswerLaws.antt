@@ -1,12 +1,12 @@
 -- Every text is answered: by a sheet that is taken and holds the records read, or by its first wrong line. Assumes nothing.
-use Rattle.std.specs.Prelude.{ℕ, ◌+◌, ◌*◌, ◌≤◌, ◌<◌, ◌≡◌, ◌&&◌, List, [], ◌∷◌, ◌++◌, ltb, eqb, get_or}
+use Rattle.std.specs.Prelude.{ℕ, ◌+◌, ◌*◌, ◌≤◌, ◌<◌, ◌≡◌, ◌&&◌, List, [], ◌∷◌, ◌++◌, ltb, eqb, get_or, Ok}
 use Rattle.std.proofs.Common.{arith, add-zero, sym, ◌∙◌, ⊎_elim, ltb-true, ltb-false, eqb-true, lt-ltb, le-ltb, length-append}
 use Rattle.std.proofs.Math.Path.{refl, ap}
 use Rattle.std.proofs.Math.ListN.{length}
 use Rattle.std.proofs.Math.Seq.{get_or-append_seam}
 use Rattle.rules.specs.Loops.{one_if}
 use Rattle.rules.specs.LoopsLaws.{and_right, either}
-use Rattle.rules.specs.declared.steps.SheetAnswer.{SheetAnswer}
+use Rattle.rules.specs.Types.{SheetAnswer}
 use Rattle.rules.specs.Sheet.{trailer_at, sheet_answer, sheet_records}
 use Rattle.rules.proofs.SheetLaws.{Whole, taken_whole}
 use Rattle.rules.specs.Listing.{decimal_of}
@@ -131,7 +131,7 @@ module _ (text : List ℕ) where
       sixteens = text_kept (unmarked text)
 
       -- and that sheet is taken and holds them
-      pub text_taken : sheet_answer (sheet_text text) ≡ SheetAnswer.Taken
+      pub text_taken : sheet_answer (sheet_text text) ≡ Ok tt
       text_taken =
           let n : length (text_read (unmarked text)).records ≡ 16 * (text_read (unmarked text)).reader.count = sixteens.counted in
           let m : (text_read (unmarked text)).reader.count ≤ 4095 = sixteens.most in
@@ -155,7 +155,7 @@ pub data Answered (text : List ℕ) : Type 0 where
   Sheet :
       length text ≤ text_most
       → (text_read (unmarked text)).reader.stop ≡ Stop.Going
-      → sheet_answer (sheet_text text) ≡ SheetAnswer.Taken
+      → sheet_answer (sheet_text text) ≡ Ok tt
       → sheet_records (sheet_text text) ≡ (text_read (unmarked text)).records
       → Answered text
   Wrong :
@@ -179,7 +179,7 @@ text_answered text =
 
 -- ---- a line is no sheet: a sheet ends with its mark, a line with a newline
 
-line_no_sheet : (xs : List ℕ) → sheet_answer (xs ++ (10 ∷ [])) ≡ SheetAnswer.Taken → ⊥
+line_no_sheet : (xs : List ℕ) → sheet_answer (xs ++ (10 ∷ [])) ≡ Ok tt → ⊥
 line_no_sheet xs e =
     let b = xs ++ (10 ∷ []) in
     let w : Whole (xs ++ (10 ∷ [])) = taken_whole (xs ++ (10 ∷ [])) e in
@@ -191,7 +191,7 @@ line_no_sheet xs e =
     omega (arith, mark, newline)
 
 -- so the line that names what is wrong is never taken for a sheet
-pub fault_no_sheet : (number : ℕ) (f : Fault) (line : List ℕ) → sheet_answer (fault_line number f line) ≡ SheetAnswer.Taken → ⊥
+pub fault_no_sheet : (number : ℕ) (f : Fault) (line : List ℕ) → sheet_answer (fault_line number f line) ≡ Ok tt → ⊥
 unfolding fault_line
 fault_no_sheet number f line e =
     line_no_sheet (text_bytes "line " ++ decimal_of number ++ text_bytes ": " ++ fault_text f line) e

@@ -1,5 +1,5 @@
 -- What the writer says of any record, the reader reads as that record, by words or by `raw`. Assumes nothing.
-use Rattle.std.specs.Prelude.{ℕ, zero, suc, ◌+◌, ◌*◌, ◌/◌, ◌%◌, ◌≤◌, ◌<◌, ◌≡◌, refl, true, List, [], ◌∷◌, ◌++◌, ltb, length, get_or, set}
+use Rattle.std.specs.Prelude.{ℕ, zero, suc, ◌+◌, ◌*◌, ◌/◌, ◌%◌, ◌≤◌, ◌<◌, ◌≡◌, refl, true, List, [], ◌∷◌, ◌++◌, ltb, length, get_or, set, Some, None}
 use Rattle.std.proofs.Common.{arith, add-zero, ap, ◌∙◌, subst, lt-ltb, length-append}
 use Rattle.std.proofs.Math.Seq.{append_snoc}
 use Rattle.std.proofs.lemmas.List.{set_at, get_or_at}
@@ -96,8 +96,8 @@ raw_says b w = record { ends = rw (raw_scan b w); gives = rw (raw_scan b w) }
 -- ---- any record
 
 by_says : (r : Reading) (b : List ℕ) → Bytes16 b → step_of_record b ≡ r → Says (record_by r b) b
-by_says Reading.Nothing b w e = raw_says b w
-by_says (Reading.Known s) b w e =
+by_says None b w e = raw_says b w
+by_says (Some s) b w e =
     subst (Says (step_text s)) (read_writes b w s e) (step_says s (read_fits b w s e))
 
 -- "for every record, its line (words or raw) gives the record"

@@ -1,12 +1,12 @@
 -- The sheet that is made of records is taken and holds them, the records of any sheet come back from their words, and a mark before a text is blank. Assumes nothing.
-use Rattle.std.specs.Prelude.{ℕ, zero, suc, ◌+◌, ◌*◌, ◌-◌, ◌/◌, ◌%◌, ◌≤◌, ◌<◌, ◌≡◌, refl, List, [], ◌∷◌, ◌++◌, get_or, take, drop, eqb, true, false, ◌&&◌}
+use Rattle.std.specs.Prelude.{ℕ, zero, suc, ◌+◌, ◌*◌, ◌-◌, ◌/◌, ◌%◌, ◌≤◌, ◌<◌, ◌≡◌, refl, List, [], ◌∷◌, ◌++◌, get_or, take, drop, eqb, true, false, ◌&&◌, Ok, Err}
 use native.Mathlib.Omega.{arith}
 use Rattle.std.proofs.Common.{add-zero, sym, ap, ◌∙◌, append-nil, append_assoc, length-append, length-take, length-drop, take-add, get_or-append-add, get_or-take, get_or-drop, true≢false, ⊎_elim}
 use borrow.Author.Tests.{le-ltb, eqb-true}
 use Rattle.std.proofs.Math.ListN.{length}
 use Rattle.std.proofs.Math.Seq.{take-length, take-append_seam}
 use Rattle.rules.specs.Loops.{joined}
-use Rattle.rules.specs.declared.steps.SheetAnswer.{SheetAnswer}
+use Rattle.rules.specs.Types.{SheetAnswer, SheetRefusal}
 use Rattle.rules.proofs.RecordLaws.{Bytes16}
 use Rattle.rules.specs.Record.{long_bytes}
 use Rattle.rules.specs.Sheet.{trailer_at, distance_of, sheet_answer, sheet_records, record_at, records_up_to}
@@ -83,24 +83,24 @@ drop_bytes k l h i = rw (get_or-drop k l i 0) (h (k + i))
 
 pub sheet_bytes : (a : SheetAnswer) (b : List ℕ) → sheet_answer b ≡ a → ((i : ℕ) → get_or b i 0 < 256) → (i : ℕ) → get_or (sheet_records b) i 0 < 256
 unfolding sheet_records
-sheet_bytes SheetAnswer.Taken b e h i = rw e (take_bytes (distance_of b) (drop (trailer_at b - distance_of b) b) (drop_bytes (trailer_at b - distance_of b) b h) i)
-sheet_bytes SheetAnswer.TooLong b e h i = rw e (omega arith)
-sheet_bytes SheetAnswer.TooShort b e h i = rw e (omega arith)
-sheet_bytes SheetAnswer.BadMark b e h i = rw e (omega arith)
-sheet_bytes SheetAnswer.BadDistance b e h i = rw e (omega arith)
+sheet_bytes (Ok u) b e h i = rw e (take_bytes (distance_of b) (drop (trailer_at b - distance_of b) b) (drop_bytes (trailer_at b - distance_of b) b h) i)
+sheet_bytes (Err SheetRefusal.TooLong) b e h i = rw e (omega arith)
+sheet_bytes (Err SheetRefusal.TooShort) b e h i = rw e (omega arith)
+sheet_bytes (Err SheetRefusal.BadMark) b e h i = rw e (omega arith)
+sheet_bytes (Err SheetRefusal.BadDistance) b e h i = rw e (omega arith)
 
 pub sheet_most_lem : (a : SheetAnswer) (b : List ℕ) → sheet_answer b ≡ a → length (sheet_records b) ≤ 65520
 unfolding sheet_records
-sheet_most_lem SheetAnswer.Taken b e =
+sheet_most_lem (Ok tt) b e =
     let w : Whole b = taken_whole b e in
     let m : length b ≤ 65536 = w.most in
     let s : distance_of b % 16 ≡ 0 = w.sixteens in
     let d : distance_of b ≤ length b - 8 = w.within in
     rw (taken_length b e) (omega arith)
-sheet_most_lem SheetAnswer.TooLong b e = rw e (omega arith)
-sheet_most_lem SheetAnswer.TooShort b e = rw e (omega arith)
-sheet_most_lem SheetAnswer.BadMark b e = rw e (omega arith)
-sheet_most_lem SheetAnswer.BadDistance b e = rw e (omega arith)
+sheet_most_lem (Err SheetRefusal.TooLong) b e = rw e (omega arith)
+sheet_most_lem (Err SheetRefusal.TooShort) b e = rw e (omega arith)
+sheet_most_lem (Err SheetRefusal.BadMark) b e = rw e (omega arith)
+sheet_most_lem (Err SheetRefusal.BadDistance) b e = rw e (omega arith)
 
 -- the records of any sheet: what the text of their words reads as is those records
 pub sheet_survives :
@@ -135,7 +135,7 @@ module _ (r : List ℕ) (whole : length r % 16 ≡ 0) (short : length r ≤ 6552
       made_first : get_or (sheet_of r) (length r) 0 ≡ length r % 256
       made_first = ap (λ (i : ℕ). get_or (sheet_of r) i 0) (sym (add-zero (length r))) ∙ made_byte 0
 
-  pub made_taken : sheet_answer (sheet_of r) ≡ SheetAnswer.Taken
+  pub made_taken : sheet_answer (sheet_of r) ≡ Ok tt
   unfolding sheet_answer
   made_taken =
       rw (made_distance, made_trailer, made_byte 4, made_byte 5, made_byte 6, made_byte 7, made_length, le-ltb 65536 (length r + 8) (omega arith), le-ltb (length r + 8) 8 (omega arith), whole, le-ltb (length r) (length r) (omega arith))
@@ -160,7 +160,7 @@ plain_lines part (suc n) = rw (plain_lines part n, lines_more (records_up_to par
 
 -- the words of a sheet that is taken read as its records
 pub plain_survives :
-    (b : List ℕ) → ((i : ℕ) → get_or b i 0 < 256) → sheet_answer b ≡ SheetAnswer.Taken
+    (b : List ℕ) → ((i : ℕ) → get_or b i 0 < 256) → sheet_answer b ≡ Ok tt
     → (text_read (plain_of b)).records ≡ sheet_records b
 unfolding plain_of
 plain_survives b byte e =

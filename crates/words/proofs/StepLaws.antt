@@ -1,5 +1,5 @@
 -- What the writer says of a step, the reader reads as that step's record. Assumes nothing.
-use Rattle.std.specs.Prelude.{ℕ, ◌≡◌, false, List, ◌∷◌, ◌++◌, eqb}
+use Rattle.std.specs.Prelude.{ℕ, ◌≡◌, false, List, ◌∷◌, ◌++◌, eqb, Some}
 use Rattle.std.proofs.Common.{arith, sym, subst, ⊎_elim, eqb-true}
 use Rattle.std.proofs.Math.Path.{refl}
 use Rattle.rules.specs.Loops.{first_up_to}
@@ -162,5 +162,5 @@ step_says (Step.Retire h) w =
     (record { text = λ _ _. refl; known = refl }, (record { plain = refl; taken = refl; fits = omega (arith, w.h) }, tt)) refl refl
 
 -- "for every step, reading its words gives the step"
-pub step_reads : (s : Step) → StepFits s → step_of_record (end_of (scan_all blank (step_text s))).bytes ≡ Reading.Known s
+pub step_reads : (s : Step) → StepFits s → step_of_record (end_of (scan_all blank (step_text s))).bytes ≡ Some s
 step_reads s w = rw (step_says s w).gives (written_reads s w)

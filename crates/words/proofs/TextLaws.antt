@@ -1,6 +1,6 @@
 -- Any list of records survives the trip to words and back. Assumes nothing.
 -- First that no line of the writer holds a newline, and how long it is; then one line; then all of them.
-use Rattle.std.specs.Prelude.{ℕ, zero, suc, ◌+◌, ◌*◌, ◌/◌, ◌%◌, ◌≤◌, ◌<◌, ◌≡◌, refl, Bool, true, false, cond, List, [], ◌∷◌, ◌++◌, ltb, eqb, length}
+use Rattle.std.specs.Prelude.{ℕ, zero, suc, ◌+◌, ◌*◌, ◌/◌, ◌%◌, ◌≤◌, ◌<◌, ◌≡◌, refl, Bool, true, false, cond, List, [], ◌∷◌, ◌++◌, ltb, eqb, length, Some, None}
 use Rattle.std.proofs.Common.{arith, add-zero, zero-add, ap, ◌∙◌, append-nil, append_assoc, lt-ltb, ne_eqb, length-append}
 use Rattle.rules.specs.Loops.{joined}
 use Rattle.rules.specs.LoopsLaws.{cond_keeps}
@@ -58,8 +58,8 @@ plain_hex (x ∷ xs) =
 
 plain_by : (r : Reading) (b : List ℕ) → PlainText (record_by r b)
 unfolding step_text raw_text
-plain_by Reading.Nothing b = plain_append (word_text raw_word) (32 ∷ hex_text b) (plain_word raw_word) (omega arith, plain_hex b)
-plain_by (Reading.Known s) b =
+plain_by None b = plain_append (word_text raw_word) (32 ∷ hex_text b) (plain_word raw_word) (omega arith, plain_hex b)
+plain_by (Some s) b =
     plain_append (word_text (first_word s)) (rest_text (more_tokens s)) (plain_word (first_word s)) (plain_rest (more_tokens s))
 
 pub plain_record : (b : List ℕ) → PlainText (record_text b)
@@ -134,8 +134,8 @@ raw_length b e =
     rw (length-append (word_text raw_word) (32 ∷ hex_text b)) (omega (arith, letters_length 9 raw_word, hex_length b, e))
 
 by_length : (r : Reading) (b : List ℕ) → length b ≡ 16 → length (record_by r b) ≤ 108
-by_length Reading.Nothing b e = raw_length b e
-by_length (Reading.Known s) b e = step_length s
+by_length None b e = raw_length b e
+by_length (Some s) b e = step_length s
 
 -- no line of the writer is longer than 108 bytes, its newline apart
 pub record_length : (b : List ℕ) → length b ≡ 16 → length (record_text b) ≤ 108

@@ -1,5 +1,5 @@
 -- From a sheet to words and back: what passwrite makes of the words that passread prints alone. Assumes nothing.
-use Rattle.std.specs.Prelude.{ℕ, zero, suc, ◌+◌, ◌*◌, ◌-◌, ◌/◌, ◌%◌, ◌≤◌, ◌<◌, ◌≡◌, refl, Bool, true, false, ◌&&◌, ltb, eqb, length, get_or}
+use Rattle.std.specs.Prelude.{ℕ, zero, suc, ◌+◌, ◌*◌, ◌-◌, ◌/◌, ◌%◌, ◌≤◌, ◌<◌, ◌≡◌, refl, Bool, true, false, ◌&&◌, ltb, eqb, length, get_or, Ok, Some, None}
 use native.Mathlib.Omega.{arith}
 use Rattle.std.proofs.Common.{add-zero, ap, ◌∙◌, ⊎_elim, ltb-true, le-ltb, eqb-true, length-drop, get_or-drop, drop-drop, ext_get_or}
 use Rattle.std.proofs.Math.Path.{sym}
@@ -7,7 +7,7 @@ use mathlib.Core.List.{List, [], ◌∷◌, ◌++◌, append-nil, append_assoc}
 use Rattle.std.proofs.Math.ListN.{take, drop, take-append-drop}
 use Rattle.rules.specs.LoopsLaws.{and_left, and_right, either}
 use Rattle.rules.proofs.RecordLaws.{each_row_at}
-use Rattle.rules.specs.declared.steps.SheetAnswer.{SheetAnswer}
+use Rattle.rules.specs.Types.{SheetAnswer}
 use Rattle.rules.specs.Record.{step_of_record}
 use Rattle.rules.specs.Sheet.{trailer_at, distance_of, sheet_answer, sheet_records, records_up_to}
 use Rattle.rules.proofs.SheetLaws.{taken_whole, taken_length, records_sixteens}
@@ -42,10 +42,10 @@ step_first w (t ∷ ts) rest =
 
 record_first : (r : Reading) (b rest : List ℕ) → get_or (record_by r b ++ (10 ∷ rest)) 0 0 < 128
 unfolding step_text raw_text
-record_first Reading.Nothing b rest =
+record_first None b rest =
     rw (append_assoc (word_text raw_word) (32 ∷ hex_text b) (10 ∷ rest))
     (letters_first 9 raw_word 32 (hex_text b ++ (10 ∷ rest)) (omega arith))
-record_first (Reading.Known s) b rest = step_first (first_word s) (more_tokens s) rest
+record_first (Some s) b rest = step_first (first_word s) (more_tokens s) rest
 
 lines_first : (bs : List (List ℕ)) → get_or (lines_text bs) 0 0 < 128
 unfolding lines_text record_text
@@ -81,7 +81,7 @@ part_comes_back part byte whole short =
 
 -- "passread --plain" and then "passwrite": the records come back as a sheet, without the heading
 pub sheet_comes_back :
-    (b : List ℕ) → ((i : ℕ) → get_or b i 0 < 256) → sheet_answer b ≡ SheetAnswer.Taken
+    (b : List ℕ) → ((i : ℕ) → get_or b i 0 < 256) → sheet_answer b ≡ Ok tt
     → sheet_text (plain_of b) ≡ sheet_of (sheet_records b)
 unfolding plain_of
 sheet_comes_back b byte e =
@@ -90,7 +90,7 @@ sheet_comes_back b byte e =
 
 -- ---- what a sheet that is taken is made of: its heading, its records, and their trailer
 
-module _ (b : List ℕ) (byte : (i : ℕ) → get_or b i 0 < 256) (e : sheet_answer b ≡ SheetAnswer.Taken) where
+module _ (b : List ℕ) (byte : (i : ℕ) → get_or b i 0 < 256) (e : sheet_answer b ≡ Ok tt) where
   abbrev mark : ℕ → ℕ → Bool
   mark k x = eqb (get_or b (trailer_at b + k) 0) x
 

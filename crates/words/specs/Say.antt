@@ -1,5 +1,5 @@
 -- The writer: the words of a step, the line of a record, the text of a list of records. Assumes nothing.
-use Rattle.std.specs.Prelude.{ℕ, ◌+◌, ◌/◌, ◌%◌, ◌≤◌, cond, ◌≡◌, List, [], ◌∷◌, ◌++◌, map, take, ltb, eqb}
+use Rattle.std.specs.Prelude.{ℕ, ◌+◌, ◌/◌, ◌%◌, ◌≤◌, cond, ◌≡◌, List, [], ◌∷◌, ◌++◌, map, take, ltb, eqb, Some, None}
 use Prim.Native.Char.{code}
 use Prim.Native.String.{String, [] as no_more, ◌∷◌ as ◌then◌}
 use Rattle.rules.specs.Listing.{spelt, digits_of}
@@ -136,8 +136,8 @@ unfoldable pub raw_text : List ℕ → List ℕ
 raw_text bytes = word_text raw_word ++ (32 ∷ hex_text bytes)
 
 abbrev pub record_by : Reading → List ℕ → List ℕ
-record_by Reading.Nothing bytes = raw_text bytes
-record_by (Reading.Known s) bytes = step_text s
+record_by None bytes = raw_text bytes
+record_by (Some s) bytes = step_text s
 
 -- words where the record stands for a step, else `raw`
 unfoldable pub record_text : List ℕ → List ℕ

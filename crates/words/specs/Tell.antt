@@ -1,8 +1,8 @@
 -- What passread prints: each record in words with its answer beside it, or the words alone. Assumes nothing.
-use Rattle.std.specs.Prelude.{ℕ, zero, suc, ◌+◌, ◌/◌, List, [], ◌∷◌, ◌++◌, length, get_or}
+use Rattle.std.specs.Prelude.{ℕ, zero, suc, ◌+◌, ◌/◌, List, [], ◌∷◌, ◌++◌, length, get_or, Ok, Err}
 use Prim.Native.String.{String}
-use Rattle.rules.specs.declared.outcomes.Answer.{Answer}
-use Rattle.rules.specs.declared.steps.SheetAnswer.{SheetAnswer}
+use Rattle.rules.specs.Types.{Answer}
+use Rattle.rules.specs.Types.{SheetAnswer, SheetRefusal}
 use Rattle.rules.specs.Answers.{refusal_number}
 use Rattle.rules.specs.Record.{step_record_of}
 use Rattle.rules.specs.Sheet.{sheet_answer, sheet_number, sheet_records, record_at}
@@ -43,15 +43,15 @@ refusal_phrase number = text_bytes (get_or refusal_phrases number "")
 
 abbrev pub sheet_phrase : SheetAnswer → List ℕ
 -- "taken"
-sheet_phrase SheetAnswer.Taken = 116 ∷ 97 ∷ 107 ∷ 101 ∷ 110 ∷ []
+sheet_phrase (Ok u) = 116 ∷ 97 ∷ 107 ∷ 101 ∷ 110 ∷ []
 -- "over 65536 bytes"
-sheet_phrase SheetAnswer.TooLong = 111 ∷ 118 ∷ 101 ∷ 114 ∷ 32 ∷ 54 ∷ 53 ∷ 53 ∷ 51 ∷ 54 ∷ 32 ∷ 98 ∷ 121 ∷ 116 ∷ 101 ∷ 115 ∷ []
+sheet_phrase (Err SheetRefusal.TooLong) = 111 ∷ 118 ∷ 101 ∷ 114 ∷ 32 ∷ 54 ∷ 53 ∷ 53 ∷ 51 ∷ 54 ∷ 32 ∷ 98 ∷ 121 ∷ 116 ∷ 101 ∷ 115 ∷ []
 -- "under 8 bytes"
-sheet_phrase SheetAnswer.TooShort = 117 ∷ 110 ∷ 100 ∷ 101 ∷ 114 ∷ 32 ∷ 56 ∷ 32 ∷ 98 ∷ 121 ∷ 116 ∷ 101 ∷ 115 ∷ []
+sheet_phrase (Err SheetRefusal.TooShort) = 117 ∷ 110 ∷ 100 ∷ 101 ∷ 114 ∷ 32 ∷ 56 ∷ 32 ∷ 98 ∷ 121 ∷ 116 ∷ 101 ∷ 115 ∷ []
 -- "mark is wrong"
-sheet_phrase SheetAnswer.BadMark = 109 ∷ 97 ∷ 114 ∷ 107 ∷ 32 ∷ 105 ∷ 115 ∷ 32 ∷ 119 ∷ 114 ∷ 111 ∷ 110 ∷ 103 ∷ []
+sheet_phrase (Err SheetRefusal.BadMark) = 109 ∷ 97 ∷ 114 ∷ 107 ∷ 32 ∷ 105 ∷ 115 ∷ 32 ∷ 119 ∷ 114 ∷ 111 ∷ 110 ∷ 103 ∷ []
 -- "distance is wrong"
-sheet_phrase SheetAnswer.BadDistance = 100 ∷ 105 ∷ 115 ∷ 116 ∷ 97 ∷ 110 ∷ 99 ∷ 101 ∷ 32 ∷ 105 ∷ 115 ∷ 32 ∷ 119 ∷ 114 ∷ 111 ∷ 110 ∷ 103 ∷ []
+sheet_phrase (Err SheetRefusal.BadDistance) = 100 ∷ 105 ∷ 115 ∷ 116 ∷ 97 ∷ 110 ∷ 99 ∷ 101 ∷ 32 ∷ 105 ∷ 115 ∷ 32 ∷ 119 ∷ 114 ∷ 111 ∷ 110 ∷ 103 ∷ []
 
 -- ---- a record, its answer beside it
 
@@ -65,8 +65,8 @@ refused_told number =
     (32 ∷ 114 ∷ 101 ∷ 102 ∷ 117 ∷ 115 ∷ 101 ∷ 100 ∷ 32 ∷ []) ++ decimal_of number ++ (32 ∷ refusal_phrase number)
 
 abbrev pub answer_told : Answer → List ℕ
-answer_told (Answer.Accepted v) = accepted_told v
-answer_told (Answer.Refused r) = refused_told (refusal_number r)
+answer_told (Ok v) = accepted_told v
+answer_told (Err r) = refused_told (refusal_number r)
 
 -- place, words, answer
 unfoldable pub told_line : ℕ → List ℕ → Answer → List ℕ
@@ -93,11 +93,11 @@ refused_sheet a =
     (115 ∷ 104 ∷ 101 ∷ 101 ∷ 116 ∷ 32 ∷ []) ++ decimal_of (sheet_number a) ++ (32 ∷ sheet_phrase a) ++ (10 ∷ [])
 
 abbrev pub sheet_by : SheetAnswer → List ℕ → List ℕ
-sheet_by SheetAnswer.Taken text = text
-sheet_by SheetAnswer.TooLong text = refused_sheet SheetAnswer.TooLong
-sheet_by SheetAnswer.TooShort text = refused_sheet SheetAnswer.TooShort
-sheet_by SheetAnswer.BadMark text = refused_sheet SheetAnswer.BadMark
-sheet_by SheetAnswer.BadDistance text = refused_sheet SheetAnswer.BadDistance
+sheet_by (Ok u) text = text
+sheet_by (Err SheetRefusal.TooLong) text = refused_sheet (Err SheetRefusal.TooLong)
+sheet_by (Err SheetRefusal.TooShort) text = refused_sheet (Err SheetRefusal.TooShort)
+sheet_by (Err SheetRefusal.BadMark) text = refused_sheet (Err SheetRefusal.BadMark)
+sheet_by (Err SheetRefusal.BadDistance) text = refused_sheet (Err SheetRefusal.BadDistance)
 
 unfoldable pub sheet_told : List ℕ → List ℕ
 sheet_told sheet = sheet_by (sheet_answer sheet) (told_up_to (sheet_records sheet) (length (sheet_records sheet) / 16))

@@ -1,10 +1,10 @@
 -- A record's work, turn by turn: the first turn is the step's own, turn k + 1 of a sweep or a crash is that of slot k. Assumes nothing.
-use Rattle.std.specs.Prelude.{ℕ, zero, suc, ◌-◌, cond, eqb}
+use Rattle.std.specs.Prelude.{ℕ, zero, suc, ◌-◌, cond, eqb, Err, Some, None}
 use Rattle.rules.specs.declared.tables.Tables.{Tables}
 use Rattle.rules.specs.declared.tables.Message.{Message}
 use Rattle.rules.specs.declared.steps.Step.{Step}
-use Rattle.rules.specs.declared.steps.Reading.{Reading}
-use Rattle.rules.specs.declared.outcomes.Answer.{Answer}
+use Rattle.rules.specs.Types.{Reading}
+use Rattle.rules.specs.Types.{Answer}
 use Rattle.rules.specs.declared.outcomes.Decision.{Decision}
 use Rattle.rules.specs.declared.looking.Found.{Found}
 use Rattle.rules.specs.declared.looking.Look.{Look}
@@ -23,8 +23,8 @@ use Rattle.rules.specs.Machine.{looks, looks_site, look_of, decide_of, stored_sl
 
 -- a record that stands for no step looks at site 0, and leaves what it sees
 abbrev pub reading_look : Reading → Look
-reading_look Reading.Nothing = looks_site 0 Trip.Nowhere
-reading_look (Reading.Known step) = look_of step
+reading_look None = looks_site 0 Trip.Nowhere
+reading_look (Some step) = look_of step
 
 abbrev pub slot_look : Trip → ℕ → Look
 slot_look trip slot = looks MailAt.Nowhere (SlotAt.Given slot) (SiteAt.Given (trip_site trip)) Trip.Nowhere
@@ -54,14 +54,14 @@ step_scan (Step.Recover site) = 0
 step_scan (Step.Retire h) = 32
 
 abbrev pub scan_count : Reading → ℕ
-scan_count Reading.Nothing = 0
-scan_count (Reading.Known step) = step_scan step
+scan_count None = 0
+scan_count (Some step) = step_scan step
 
 -- ---- what a turn decides
 
 abbrev pub reading_done : Reading → Found → Seen → Decision
-reading_done Reading.Nothing found seen = record { answer = Answer.Refused Refusal.NoStep; left = seen }
-reading_done (Reading.Known step) found seen = decide_of step found seen
+reading_done None found seen = record { answer = Err Refusal.NoStep; left = seen }
+reading_done (Some step) found seen = decide_of step found seen
 
 abbrev pub slot_done : Trip → ℕ → Answer → Seen → Decision
 slot_done trip slot before seen =
@@ -84,8 +84,8 @@ turn_stored turn t at left = cond (eqb turn 0) (stored t at left) (stored_slot t
 -- ---- the work on whole tables
 
 abbrev pub reading_head : Tables → Reading → Outcome
-reading_head t Reading.Nothing = record { answer = Answer.Refused Refusal.NoStep; tables = t }
-reading_head t (Reading.Known step) = head_of t step
+reading_head t None = record { answer = Err Refusal.NoStep; tables = t }
+reading_head t (Some step) = head_of t step
 
 abbrev pub work_turn : Tables → Reading → ℕ → Outcome → Outcome
 work_turn t reading zero o = reading_head t reading
@@ -93,5 +93,5 @@ work_turn t reading (suc slot) o = turn_of (reading_look reading).trip slot o
 
 -- before the first turn there is no answer yet; what stands there does not matter
 unfoldable pub work_up_to : Tables → Reading → ℕ → Outcome
-work_up_to t reading zero = record { answer = Answer.Refused Refusal.NoStep; tables = t }
+work_up_to t reading zero = record { answer = Err Refusal.NoStep; tables = t }
 work_up_to t reading (suc n) = work_turn t reading n (work_up_to t reading n)

@@ -1,13 +1,13 @@
 -- Laws of a record's work: what a runner that holds the tables knows between two turns, and that the last turn leaves the record's outcome. Assumes nothing.
 use Prim.Native.Nat.{ℕ, zero, suc, ◌+◌, ◌-◌, ◌%◌, ◌≤◌, ◌<◌}
-use Rattle.std.proofs.Common.{arith, add-one, ◌∙◌, ⊎_elim, true≢false, ne_eqb}
+use Rattle.std.proofs.Common.{arith, add-one, ◌∙◌, ⊎_elim, true≢false, ne_eqb, Err, Some, None}
 use Rattle.std.specs.Prelude.{◌≡◌, refl, Bool, true, false, ◌||◌, eqb}
 use Rattle.std.proofs.Math.Path.{sym, ap}
 use Rattle.rules.specs.declared.tables.Tables.{Tables}
 use Rattle.rules.specs.declared.tables.Message.{Message}
 use Rattle.rules.specs.declared.steps.Step.{Step}
-use Rattle.rules.specs.declared.steps.Reading.{Reading}
-use Rattle.rules.specs.declared.outcomes.Answer.{Answer}
+use Rattle.rules.specs.Types.{Reading}
+use Rattle.rules.specs.Types.{Answer}
 use Rattle.rules.specs.declared.outcomes.Decision.{Decision}
 use Rattle.rules.specs.declared.looking.Found.{Found}
 use Rattle.rules.specs.declared.looking.Look.{Look}
@@ -75,23 +75,23 @@ rest_found t p = some_both (λ k. is_message_of p (message_at t k)) (λ s. (visi
 -- ---- what is asked of the pass, and by whom
 
 pub scan_most : (r : Reading) → scan_count r ≤ 32
-scan_most Reading.Nothing = omega arith
-scan_most (Reading.Known (Step.Tick site n)) = omega arith
-scan_most (Reading.Known (Step.Begin home slot q r)) = omega arith
-scan_most (Reading.Known (Step.Invoke h site write object value)) = omega arith
-scan_most (Reading.Known (Step.Refresh h q r)) = omega arith
-scan_most (Reading.Known (Step.Terminate h)) = omega arith
-scan_most (Reading.Known (Step.Prepare h)) = omega arith
-scan_most (Reading.Known (Step.Ask h site)) = omega arith
-scan_most (Reading.Known (Step.Close h)) = omega arith
-scan_most (Reading.Known (Step.Tell h site)) = omega arith
-scan_most (Reading.Known (Step.Abort h)) = omega arith
-scan_most (Reading.Known (Step.Deliver n)) = omega arith
-scan_most (Reading.Known (Step.Drop n)) = omega arith
-scan_most (Reading.Known (Step.Sweep site)) = omega arith
-scan_most (Reading.Known (Step.Crash site)) = omega arith
-scan_most (Reading.Known (Step.Recover site)) = omega arith
-scan_most (Reading.Known (Step.Retire h)) = omega arith
+scan_most None = omega arith
+scan_most (Some (Step.Tick site n)) = omega arith
+scan_most (Some (Step.Begin home slot q r)) = omega arith
+scan_most (Some (Step.Invoke h site write object value)) = omega arith
+scan_most (Some (Step.Refresh h q r)) = omega arith
+scan_most (Some (Step.Terminate h)) = omega arith
+scan_most (Some (Step.Prepare h)) = omega arith
+scan_most (Some (Step.Ask h site)) = omega arith
+scan_most (Some (Step.Close h)) = omega arith
+scan_most (Some (Step.Tell h site)) = omega arith
+scan_most (Some (Step.Abort h)) = omega arith
+scan_most (Some (Step.Deliver n)) = omega arith
+scan_most (Some (Step.Drop n)) = omega arith
+scan_most (Some (Step.Sweep site)) = omega arith
+scan_most (Some (Step.Crash site)) = omega arith
+scan_most (Some (Step.Recover site)) = omega arith
+scan_most (Some (Step.Retire h)) = omega arith
 
 -- only a new message asks for the lowest empty slot
 empty_asked :
@@ -164,9 +164,9 @@ first_turn :
     (seen_of t (turn_places (reading_look r) (mail_place (reading_look r).mail empty) t)))
     ≡ reading_head t r
 unfolding head_of places_of
-first_turn t Reading.Nothing empty rest e f =
-    rw (stored_seen t (turn_places (reading_look Reading.Nothing) 0 t))
-first_turn t (Reading.Known step) empty rest e f =
+first_turn t None empty rest e f =
+    rw (stored_seen t (turn_places (reading_look None) 0 t))
+first_turn t (Some step) empty rest e f =
     rw (empty_asked step empty (lowest_empty t) e)
     (ap
     (made 0 t (places_of t (look_of step)))
@@ -203,14 +203,14 @@ count_same (Trip.Sweep site) a b e = rw e
 count_same (Trip.Crash site) a b e = rw e
 
 -- a trip has counted at most one for each turn
-refused_counts : (trip : Trip) (refusal : Refusal) → trip_value trip (Answer.Refused refusal) ≡ 0
+refused_counts : (trip : Trip) (refusal : Refusal) → trip_value trip (Err refusal) ≡ 0
 refused_counts Trip.Nowhere refusal = refl
 refused_counts (Trip.Sweep site) refusal = refl
 refused_counts (Trip.Crash site) refusal = refl
 
 head_counts : (t : Tables) (r : Reading) → trip_value (reading_look r).trip (reading_head t r).answer ≡ 0
-head_counts t Reading.Nothing = refl
-head_counts t (Reading.Known step) = trip_starts t step
+head_counts t None = refl
+head_counts t (Some step) = trip_starts t step
 
 slots_count : (t : Tables) (r : Reading) (k : ℕ) → trip_value (reading_look r).trip (work_up_to t r (suc k)).answer ≤ k
 unfolding work_up_to
@@ -229,8 +229,8 @@ reading_turns :
     (t : Tables) (r : Reading)
     → turns_up_to (reading_look r).trip (reading_head t r) (turn_count (reading_look r).trip (reading_head t r).answer) ≡ reading_of t r
 unfolding turns_up_to step_in_range_of
-reading_turns t Reading.Nothing = refl
-reading_turns t (Reading.Known step) = refl
+reading_turns t None = refl
+reading_turns t (Some step) = refl
 
 -- a later turn is told from the first
 later_turn : (k : ℕ) → eqb (suc k) 0 ≡ false
@@ -262,7 +262,7 @@ pub record Turned (r : Reading) (empty : ℕ) (rest : Bool) (t : Tables) (before
   pub bank : b ≡ bank_place look.site message s
   pub decided : d ≡ turn_done r (reading_look r).trip turn (record { place = m; remains = rest }) before (left_message (slot_seen t (places_by s p b m)) message)
 
-pub working_starts : (t : Tables) (r : Reading) → Working t r t (Answer.Refused Refusal.NoStep) 0 1
+pub working_starts : (t : Tables) (r : Reading) → Working t r t (Err Refusal.NoStep) 0 1
 unfolding work_up_to
 working_starts t r = record { done = refl; end = refl; most = omega arith }
 

@@ -21,8 +21,8 @@ pub fn reading_look(reading: Reading) -> Look
     ensures { result ≡ reading_look reading }
 {
     match reading {
-        Reading::Nothing => looks_site(0, Trip::Nowhere),
-        Reading::Known(step) => look_of(step),
+        None => looks_site(0, Trip::Nowhere),
+        Some(step) => look_of(step),
     }
 }
 
@@ -103,8 +103,8 @@ pub fn scan_count(reading: Reading) -> usize
     ensures { result ≡ scan_count reading }
 {
     match reading {
-        Reading::Nothing => 0,
-        Reading::Known(step) => step_scan(step),
+        None => 0,
+        Some(step) => step_scan(step),
     }
 }
 
@@ -114,11 +114,11 @@ fn decide_reading(reading: Reading, found: Found, seen: Seen) -> Decision
     ensures { result ≡ reading_done reading found seen }
 {
     match reading {
-        Reading::Nothing => Decision {
-            answer: Answer::Refused(Refusal::NoStep),
+        None => Decision {
+            answer: Err(Refusal::NoStep),
             left: seen,
         },
-        Reading::Known(step) => decide(step, found, seen),
+        Some(step) => decide(step, found, seen),
     }
 }
 

@@ -1,6 +1,6 @@
 -- A refused sheet has its one line. A taken one is run, and the list has room for all its answers.
-use Rattle.std.proofs.Common.{◌/◌, ◌≤◌, ◌≡◌, ◌∙◌, sym, arith, length}
-use Rattle.rules.specs.declared.steps.SheetAnswer.{SheetAnswer}
+use Rattle.std.proofs.Common.{◌/◌, ◌≤◌, ◌≡◌, ◌∙◌, sym, arith, length, Ok}
+use Rattle.rules.specs.Types.{SheetAnswer}
 use Rattle.rules.specs.Sheet.{sheet_answer}
 use Rattle.rules.specs.Listing.{sheet_line, printed_up_to, listing_of}
 use Rattle.sheet.specs.Few.{taken_few}
@@ -21,14 +21,14 @@ returns-in_default c =
 pub put_lines-requires : goal.put_lines-requires
 put_lines-requires c =
     let part = c.sheet_records-part.result.now in
-    let taken : sheet_answer c.args.sheet.now ≡ SheetAnswer.Taken = sym c.sheet_answer-answer.ensures ∙ c.in-Taken.is in
+    let taken : sheet_answer c.args.sheet.now ≡ Ok tt = sym c.sheet_answer-answer.ensures ∙ c.in-Taken.is in
     let few : length part / 16 ≤ 4095 = rw c.sheet_records-part.ensures (taken_few c.args.sheet.now taken) in
     (omega arith, omega arith, answers_held part (length part / 16) _ _ (omega (arith, few)) c.run.ensures)
 
 pub returns : goal.returns
 returns c =
     let part = c.sheet_records-part.result.now in
-    let taken : sheet_answer c.args.sheet.now ≡ SheetAnswer.Taken = sym c.sheet_answer-answer.ensures ∙ c.in-Taken.is in
+    let taken : sheet_answer c.args.sheet.now ≡ Ok tt = sym c.sheet_answer-answer.ensures ∙ c.in-Taken.is in
     let few : length part / 16 ≤ 4095 = rw c.sheet_records-part.ensures (taken_few c.args.sheet.now taken) in
     let q : (printed_up_to part (length part / 16)).text ≡ listing_of c.args.sheet.now =
     rw c.sheet_records-part.ensures (listing_taken c.args.sheet.now taken) in

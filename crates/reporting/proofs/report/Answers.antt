@@ -1,7 +1,7 @@
 -- What is said, by what was tried: the request, the lists, the sheet, and then the check.
-use Rattle.std.proofs.Common.{◌≡◌, ◌∙◌, sym, arith, rules, ltb-false, length}
+use Rattle.std.proofs.Common.{◌≡◌, ◌∙◌, sym, arith, rules, ltb-false, length, Ok}
 use Rattle.std.proofs.lemmas.List.{length-take-le}
-use Rattle.rules.specs.declared.steps.SheetAnswer.{SheetAnswer}
+use Rattle.rules.specs.Types.{SheetAnswer}
 use Rattle.rules.specs.LoopsLaws.{or_left, or_right, not_true, not_false}
 use Rattle.rules.specs.Sheet.{sheet_answer}
 use Rattle.rules.specs.Listing.{sheet_line}
@@ -76,7 +76,7 @@ returns c =
     let asked = c.read_request-request in
     let read = rw asked.ensures at (not_false asked.result.read c.if-not-request.false) in
     let fair = rw (c.is_too_long.ensures, c.is_too_long-2.ensures) at c.if-is_too_long.false in
-    let taken : sheet_answer c.args.sheet.now ≡ SheetAnswer.Taken = sym c.sheet_answer-answer.ensures ∙ c.in-Taken.is in
+    let taken : sheet_answer c.args.sheet.now ≡ Ok tt = sym c.sheet_answer-answer.ensures ∙ c.in-Taken.is in
     let part = c.sheet_records in
     let tables = c.tables_after-tables in
     let cleared = c.clear-c in

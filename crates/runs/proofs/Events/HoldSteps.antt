@@ -2,7 +2,7 @@
 use Rattle.std.specs.Prelude.{ℕ, ◌/◌, ◌%◌, ◌<◌, ◌≡◌, refl, Bool, true, false, ◌&&◌, ◌||◌, List, [], eqb, get_or}
 use Rattle.std.proofs.Common.{arith, sym, ⊎_elim, get_or-set_same, get_or-set_other, eq-eqb, ne_eqb}
 use Rattle.rules.specs.declared.tables.Object.{Object}
-use Rattle.rules.specs.declared.outcomes.Check.{Check}
+use Rattle.rules.specs.Types.{Check}
 use Rattle.rules.specs.declared.looking.Trip.{Trip}
 use Rattle.rules.specs.LoopsLaws.{cond_keeps}
 use Rattle.rules.specs.Tables.{past_object, message_at, bank_at, object_site, slot_of}

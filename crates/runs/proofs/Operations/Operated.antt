@@ -2,7 +2,7 @@
 -- a write leaves its value and a read the old one, and the visit that operated is still open after it.
 -- The idea: an accepted delivery of a call is one store, and its object stands where the call's bank says. Assumes nothing.
 use Prim.Native.Nat.{ℕ, ◌/◌, ◌%◌, ◌≤◌, ◌<◌}
-use Rattle.std.proofs.Common.{arith, sym, ◌∙◌, ⊎_elim, inl, inr, true≢false, get_or-set_same, get_or-set_other}
+use Rattle.std.proofs.Common.{arith, sym, ◌∙◌, ⊎_elim, inl, inr, true≢false, get_or-set_same, get_or-set_other, Ok}
 use Rattle.std.specs.Prelude.{◌≡◌, ◌≢◌, ◌⊎◌, true, false, cond, eqb, leb}
 use Rattle.std.proofs.Math.Path.{refl, ap}
 use Rattle.std.proofs.lemmas.Bool.{false≢true}
@@ -23,7 +23,7 @@ use Rattle.rules.proofs.StoredObjects.{seen_object, object_after_stored, object_
 use Rattle.rules.specs.Record.{is_step}
 use Rattle.rules.specs.Events.{is_holding}
 use Rattle.rules.proofs.Views.{Objects, deed_of}
-use Rattle.runs.specs.Types.{Site, Visit, Call, Body, Message, Tables, Step, Answer, Places, Seen, Decision}
+use Rattle.runs.specs.Types.{Site, Visit, Call, Body, Message, Tables, Step, Places, Seen, Decision}
 use Rattle.runs.specs.Walk.Put.{same_or_other}
 use Rattle.runs.specs.Walk.Seen.{places_at, seen_at}
 use Rattle.runs.proofs.Walk.Sound.{Sound}
@@ -53,7 +53,7 @@ module _ (t : Tables) (m : ℕ) (c : Call) (z : Sound t) (a : is_accepted (step_
   fine : Fine (call_checks m c Saw)
   fine = accepted_fine (call_checks m c Saw) 0 checked
 
-  answered : (step_of t (Step.Deliver m)).answer ≡ Answer.Accepted 0
+  answered : (step_of t (Step.Deliver m)).answer ≡ Ok 0
   unfolding deliver_call_of
   answered =
       single_answer t (Step.Deliver m) refl a ∙ ap (λ (d : Decision). d.answer) decided
@@ -151,7 +151,7 @@ record Operation (t : Tables) (p k : ℕ) (s : Step) : Type 0 where
   value : to_write (mail_named t s).body ≡ call.value
   below : k < 32
   free : is_held_by_other p (object_at t k) ≡ false
-  answer : (step_of t s).answer ≡ Answer.Accepted 0
+  answer : (step_of t s).answer ≡ Ok 0
   reply : mail_named (step_of t s).tables s ≡ reply_for t s (object_at t k).value
   after : object_at (step_of t s).tables k ≡ operated call (taken p (object_at t k))
   others : (j : ℕ) → j ≢ k → object_at (step_of t s).tables j ≡ object_at t j
@@ -248,7 +248,7 @@ module _ (t : Tables) (p k : ℕ) (s : Step) (z : Sound t) (operating : operates
   operated_is_held = ap (is_held_by p) op.after ∙ holder_of_called p (object_at t k) op.call op.free
 
   -- an operation answers nothing
-  pub operated_answers : (step_of t s).answer ≡ Answer.Accepted 0
+  pub operated_answers : (step_of t s).answer ≡ Ok 0
   operated_answers = op.answer
 
   -- it leaves in its message slot a reply with the value that the object had before it

@@ -1,13 +1,13 @@
 -- A reply, of any sound tables: when its delivery is taken, that it answers the value which the reply carries, and that it empties the slot.
 -- It comes into a message slot by the delivery of a call alone, so what a caller hears is what its call found.
 -- Assumes nothing.
-use Rattle.std.specs.Prelude.{ℕ, ◌+◌, ◌%◌, ◌<◌, ◌≤◌, max, ◌≡◌, ◌⊎◌, false, List}
+use Rattle.std.specs.Prelude.{ℕ, ◌+◌, ◌%◌, ◌<◌, ◌≤◌, max, ◌≡◌, ◌⊎◌, false, List, Ok}
 use native.Mathlib.Omega.{arith}
 use Rattle.std.proofs.Math.Path.{refl, ap}
 use Rattle.std.proofs.Common.{sym, ◌∙◌, inl, inr, true≢false}
 use Rattle.std.proofs.Math.Bool.{true}
 use borrow.Author.Tests.{eq-eqb, le-ltb}
-use Rattle.rules.specs.declared.outcomes.Check.{Check}
+use Rattle.rules.specs.Types.{Check}
 use Rattle.rules.specs.Limits.{clock_most, message_most}
 use Rattle.rules.specs.LoopsLaws.{cond_keeps}
 use Rattle.rules.specs.Tables.{site_at, object_at, message_at, no_message, slot_of}
@@ -21,7 +21,7 @@ use Rattle.rules.proofs.RangesLaws.{placed_places, seen_in_range}
 use Rattle.rules.proofs.RangesFits.{seen_says}
 use Rattle.rules.specs.StoredLaws.{Placed, message_after_stored}
 use Rattle.rules.proofs.Views.{settled_accepted, is_reply, Post, deed_of}
-use Rattle.runs.specs.Types.{Call, Body, Message, Tables, Step, Answer, Places, Seen, Decision}
+use Rattle.runs.specs.Types.{Call, Body, Message, Tables, Step, Places, Seen, Decision}
 use Rattle.runs.specs.Walk.Seen.{places_at, seen_at}
 use Rattle.runs.proofs.Walk.Sound.{Sound}
 use Rattle.runs.proofs.Walk.Taken.{accepted_with_head}
@@ -45,7 +45,7 @@ module _ (t : Tables) (m v : ℕ) (reply : (message_at t m).body ≡ Body.Reply 
   pub reply_is_taken :
       in_range t ≡ true → m < 32 → (site_at t (message_at t m).destination).up ≡ true
       → max (site_at t (message_at t m).destination).clock (message_at t m).stamp + 1 ≤ clock_most
-      → (step_of t (Step.Deliver m)).answer ≡ Answer.Accepted v
+      → (step_of t (Step.Deliver m)).answer ≡ Ok v
   unfolding head_of places_of decide_of deliver_body_of deliver_reply_of first_refusal
   reply_is_taken r l up room =
       let here : m % 32 ≡ m = omega arith in
@@ -53,7 +53,7 @@ module _ (t : Tables) (m v : ℕ) (reply : (message_at t m).body ≡ Body.Reply 
       let placed : Placed at = record { site = omega arith; slot = omega arith; bank = omega arith; message = l } in
       let there : (message_at t m).destination ≤ 7 = (seen_says (seen_of t at) (seen_in_range t at r placed)).message.destination in
       let site : (message_at t m).destination % 8 ≡ (message_at t m).destination = omega arith in
-      let head : (head_of t (Step.Deliver m)).answer ≡ Answer.Accepted v =
+      let head : (head_of t (Step.Deliver m)).answer ≡ Ok v =
       rw (here, reply, site, le-ltb message_most m (omega arith), up, le-ltb clock_most _ room) in
       let a : is_accepted (step_of t (Step.Deliver m)).answer ≡ true = accepted_with_head t (Step.Deliver m) r (ap is_accepted head) in
       single_answer t (Step.Deliver m) refl a ∙ head
@@ -64,7 +64,7 @@ module _ (t : Tables) (m v : ℕ) (reply : (message_at t m).body ≡ Body.Reply 
     checked = rw (decided (delivery_below t m a)) at (decision_accepted t (Step.Deliver m) a)
 
     -- an accepted delivery of a reply answers the value that it carries
-    pub reply_answers : (step_of t (Step.Deliver m)).answer ≡ Answer.Accepted v
+    pub reply_answers : (step_of t (Step.Deliver m)).answer ≡ Ok v
     unfolding deliver_reply_of
     reply_answers =
         single_answer t (Step.Deliver m) refl a
@@ -150,7 +150,7 @@ replied_finds t step m z g =
 pub heard_is_found :
     (t : Tables) (p k m v : ℕ) → Sound t → operates t p k (Step.Deliver m) ≡ true → (now : Tables)
     → message_at now m ≡ message_at (step_of t (Step.Deliver m)).tables m
-    → (step_of now (Step.Deliver m)).answer ≡ Answer.Accepted v
+    → (step_of now (Step.Deliver m)).answer ≡ Ok v
     → Finds t (Step.Deliver m) v
 heard_is_found t p k m v z does now waits heard =
     let l : m < 32 = delivery_below now m (ap is_accepted heard) in

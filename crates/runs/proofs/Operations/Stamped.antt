@@ -4,7 +4,7 @@ use Rattle.std.specs.Prelude.{ℕ, ◌%◌, ◌<◌, ◌≤◌, ◌≡◌, ◌�
 use native.Mathlib.Omega.{arith}
 use Rattle.std.proofs.Math.Path.{refl, ap}
 use Rattle.std.proofs.Common.{sym, ◌∙◌, subst, subst₂, ne_eqb}
-use Rattle.rules.specs.declared.outcomes.Check.{Check}
+use Rattle.rules.specs.Types.{Check}
 use Rattle.rules.specs.declared.looking.Trip.{Trip}
 use Rattle.rules.specs.LoopsLaws.{not_false}
 use Rattle.rules.specs.Tables.{site_at, passage_at, visit_at, message_at, slot_of}

@@ -2,7 +2,7 @@
 use Rattle.std.specs.Prelude.{ℕ, suc, ◌%◌, ◌<◌, ◌≤◌, ◌≡◌, ◌≢◌, ◌⊎◌, true, List}
 use Rattle.std.proofs.Common.{arith, ne_of_lt, sym, ◌∙◌, subst, ⊎_elim, inl, inr}
 use Rattle.std.proofs.Math.Path.{refl, ap, subst₂}
-use Rattle.rules.specs.declared.outcomes.Check.{Check}
+use Rattle.rules.specs.Types.{Check}
 use Rattle.rules.specs.declared.looking.Trip.{Trip}
 use Rattle.rules.specs.Tables.{site_at, passage_at, visit_at}
 use Rattle.rules.specs.Answers.{is_accepted, first_refusal, settle_of}

@@ -6,7 +6,7 @@ use Rattle.std.proofs.Math.Path.{refl}
 use Rattle.std.proofs.Math.Logic.{⊎_elim}
 use Rattle.rules.specs.declared.tables.Object.{Object}
 use Rattle.rules.specs.declared.looking.Trip.{Trip}
-use Rattle.rules.specs.declared.outcomes.Check.{Check}
+use Rattle.rules.specs.Types.{Check}
 use Rattle.rules.specs.LoopsLaws.{either, cond_keeps, and_left, not_false}
 use Rattle.rules.specs.Tables.{past_object, site_at, passage_at, visit_at, bank_at, object_site, slot_of}
 use Rattle.rules.specs.Answers.{first_refusal, settle_of}

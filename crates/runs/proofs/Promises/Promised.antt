@@ -3,7 +3,7 @@
 use Rattle.std.specs.Prelude.{ℕ, ◌%◌, ◌<◌, ◌≡◌, refl, ◌≢◌, ◌⊎◌, Bool, true, false, not, ◌&&◌, ◌||◌, List, eqb, leb}
 use Rattle.std.proofs.Common.{sym, ap, ◌∙◌, subst₂, ⊎_elim, inl, inr, true≢false, eq-eqb}
 use Rattle.rules.specs.declared.looking.Trip.{Trip}
-use Rattle.rules.specs.declared.outcomes.Check.{Check}
+use Rattle.rules.specs.Types.{Check}
 use Rattle.rules.specs.LoopsLaws.{either, cond_keeps}
 use Rattle.rules.specs.Tables.{passage_at, visit_at, message_at, slot_of}
 use Rattle.rules.specs.Answers.{is_accepted, first_refusal, settle_of}

@@ -5,7 +5,7 @@ use Rattle.std.proofs.Math.Path.{subst}
 use Rattle.std.proofs.Math.Bool.{Bool, false}
 use mathlib.Core.List.{List, [], ◌∷◌, ◌++◌}
 use Rattle.rules.specs.declared.looking.Trip.{Trip}
-use Rattle.rules.specs.declared.outcomes.Check.{Check}
+use Rattle.rules.specs.Types.{Check}
 use Rattle.rules.specs.LoopsLaws.{either, or_left, or_right, not_false, cond_keeps}
 use Rattle.rules.specs.Tables.{passage_at, visit_at, message_at, slot_of}
 use Rattle.rules.specs.Answers.{is_accepted, first_refusal, settle_of}

@@ -1,8 +1,7 @@
 -- What passrun runs is a run: the tables behind its listing are those of the records so far, so every theorem over runs speaks of them.
 -- And what it prints is that run's answers: a line for each record, in order, and nothing else. Assumes nothing.
-use Rattle.std.specs.Prelude.{ℕ, zero, suc, ◌+◌, ◌/◌, ◌≡◌, refl, List, [], ◌∷◌, ◌++◌, length}
+use Rattle.std.specs.Prelude.{ℕ, zero, suc, ◌+◌, ◌/◌, ◌≡◌, refl, List, [], ◌∷◌, ◌++◌, length, Ok}
 use Rattle.std.proofs.Common.{arith, sym, ap, ap₂, ◌∙◌, append-nil, append_assoc, length-append}
-use Rattle.rules.specs.declared.steps.SheetAnswer.{SheetAnswer}
 use Rattle.rules.specs.Loops.{joined}
 use Rattle.rules.specs.Tables.{start}
 use Rattle.rules.specs.Record.{step_record_of}
@@ -73,7 +72,7 @@ printed_is_lines part (suc n) =
 
 -- the listing of a sheet that is taken is a line for each of its records, in order from place 1, and each line is the record's own answer
 pub listing_is_lines :
-    (sheet : List ℕ) → sheet_answer sheet ≡ SheetAnswer.Taken
+    (sheet : List ℕ) → sheet_answer sheet ≡ Ok tt
     → listing_of sheet ≡ joined (lines_from 1 (record_answers_of start (records_up_to (sheet_records sheet) (length (sheet_records sheet) / 16))))
 unfolding listing_of
 listing_is_lines sheet e = rw e (printed_is_lines (sheet_records sheet) (length (sheet_records sheet) / 16))

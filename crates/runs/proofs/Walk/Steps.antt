@@ -1,7 +1,7 @@
 -- How a law of a step is shown, and an invariant over runs: by every accepted step's own store, and by each slot of a sweep or a crash.
 -- A ghost may be carried along the run; it is no part of the machine. Assumes nothing.
 use Prim.Native.Nat.{ℕ, zero, suc, ◌<◌, ◌≤◌}
-use Rattle.std.proofs.Common.{arith, sym, ap, ◌∙◌}
+use Rattle.std.proofs.Common.{arith, sym, ap, ◌∙◌, Some, None}
 use Rattle.std.specs.Prelude.{◌≡◌, refl, Bool, true, false, cond}
 use Rattle.std.proofs.Math.Logic.{⊎_elim}
 use Rattle.std.proofs.lemmas.Bool.{false≢true}
@@ -16,7 +16,7 @@ use Rattle.rules.specs.Record.{step_of_record, reading_of, record_in_range_of, s
 use Rattle.rules.specs.Runs.{run_of, run_records_of}
 use Rattle.runs.specs.Types.{Tables, Step, Outcome}
 use Rattle.rules.specs.declared.looking.Trip.{Trip}
-use Rattle.rules.specs.declared.steps.Reading.{Reading}
+use Rattle.rules.specs.Types.{Reading}
 
 -- ---- a ghost along a run: what an accepted step's own store does to it, and what each slot's turn does
 
@@ -136,18 +136,18 @@ run_on t (s ∷ ss) after = run_on (step_of t s).tables ss after
 -- ---- a run of records is a run of the steps that they stand for
 
 abbrev pub known_step : Reading → List Step → List Step
-known_step Reading.Nothing ss = ss
-known_step (Reading.Known s) ss = s ∷ ss
+known_step None ss = ss
+known_step (Some s) ss = s ∷ ss
 
 unfoldable pub steps_read : List (List ℕ) → List Step
 steps_read [] = []
 steps_read (r ∷ rs) = known_step (step_of_record r) (steps_read rs)
 
-no_step : (t : Tables) (r : List ℕ) → step_of_record r ≡ Reading.Nothing → (step_record_of t r).tables ≡ t
+no_step : (t : Tables) (r : List ℕ) → step_of_record r ≡ None → (step_record_of t r).tables ≡ t
 unfolding step_record_of record_in_range_of
 no_step t r e = rw e (both (in_range t))
   where
-    both : (b : Bool) → (cond b (reading_of t Reading.Nothing) (refused_all t)).tables ≡ t
+    both : (b : Bool) → (cond b (reading_of t None) (refused_all t)).tables ≡ t
     both true = refl
     both false = refl
 
@@ -156,8 +156,8 @@ one_record :
     → (x : Reading) → step_of_record r ≡ x
     → run_records_of (step_record_of t r).tables rs ≡ run_of t (known_step x (steps_read rs))
 unfolding run_of
-one_record t r rs rest Reading.Nothing e = ap (λ (u : Tables). run_records_of u rs) (no_step t r e) ∙ rest t
-one_record t r rs rest (Reading.Known s) e =
+one_record t r rs rest None e = ap (λ (u : Tables). run_records_of u rs) (no_step t r e) ∙ rest t
+one_record t r rs rest (Some s) e =
     ap (λ (o : Outcome). run_records_of o.tables rs) (record_is_step t r s e) ∙ rest (step_of t s).tables
 
 pub records_are_steps : (t : Tables) (rs : List (List ℕ)) → run_records_of t rs ≡ run_of t (steps_read rs)

@@ -2,7 +2,7 @@
 -- so every operation does what an earlier invoke said.
 -- And nothing is told that was not found: every reply in flight carries what the delivery of its call found.
 -- The idea: a run begins with no message; a call comes into a slot by an invoke alone, and a reply by the delivery of a call. Assumes nothing.
-use Rattle.std.specs.Prelude.{ℕ, ◌%◌, ◌≡◌, refl, ◌⊎◌, Bool, eqb}
+use Rattle.std.specs.Prelude.{ℕ, ◌%◌, ◌≡◌, refl, ◌⊎◌, Bool, eqb, Ok}
 use Rattle.std.proofs.Common.{sym, ◌∙◌, subst, eqb-true}
 use Rattle.std.proofs.Math.Path.{ap}
 use Rattle.std.proofs.Math.Logic.{⊎_elim}
@@ -17,7 +17,7 @@ use Rattle.rules.specs.Record.{flat_of, is_step}
 use Rattle.rules.proofs.StartLaws.{started_is_empty}
 use Rattle.rules.specs.Runs.{Started, run_of}
 use Rattle.rules.proofs.Views.{is_called, is_reply}
-use Rattle.runs.specs.Types.{Body, Message, Tables, Step, Answer}
+use Rattle.runs.specs.Types.{Body, Message, Tables, Step}
 use Rattle.runs.proofs.Walk.Steps.{run_on}
 use Rattle.runs.proofs.Walk.Sound.{sound_run}
 use Rattle.runs.specs.Operations.Definitions.{mail_named, calls_for, operates, is_write, to_write, SaysCall, InvokedInto, RepliedInto}
@@ -99,7 +99,7 @@ reply_was_found {t₀} fresh m v ss c =
 pub collected_is_found :
     {t₀ : Tables} → Started t₀ → (ss : List Step) (m v : ℕ) → (message_at (run_of t₀ ss) m).body ≡ Body.Reply v
     → is_accepted (step_of (run_of t₀ ss) (Step.Deliver m)).answer ≡ true
-    → ((step_of (run_of t₀ ss) (Step.Deliver m)).answer ≡ Answer.Accepted v) × RepliedBefore t₀ ss m v
+    → ((step_of (run_of t₀ ss) (Step.Deliver m)).answer ≡ Ok v) × RepliedBefore t₀ ss m v
 collected_is_found {t₀} fresh ss m v reply a =
     (reply_answers (run_of t₀ ss) m v reply a, reply_was_found fresh m v ss reply)
 

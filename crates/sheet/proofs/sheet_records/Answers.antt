@@ -1,17 +1,17 @@
 -- That the part lies within the bytes follows from the sheet being taken. Assumes nothing.
-use Rattle.std.proofs.Common.{◌≡◌, sym, refl, List, ℕ, []}
-use Rattle.rules.specs.declared.steps.SheetAnswer.{SheetAnswer}
+use Rattle.std.proofs.Common.{◌≡◌, sym, refl, List, ℕ, [], Ok, Err}
+use Rattle.rules.specs.Types.{SheetAnswer, SheetRefusal}
 use Rattle.rules.proofs.SheetLaws.{taken_whole, taken_records}
 use Rattle.rules.specs.Sheet.{record_part, sheet_records}
 use Rattle.sheet.proofs.sheet_records.Goals as goal
 
 -- a sheet that is not taken has no records
-none : (a : SheetAnswer) (b : List ℕ) → (a ≡ SheetAnswer.Taken → ⊥) → record_part a b ≡ []
-none SheetAnswer.Taken b h = absurd (h refl)
-none SheetAnswer.TooLong b h = refl
-none SheetAnswer.TooShort b h = refl
-none SheetAnswer.BadMark b h = refl
-none SheetAnswer.BadDistance b h = refl
+none : (a : SheetAnswer) (b : List ℕ) → (a ≡ Ok tt → ⊥) → record_part a b ≡ []
+none (Ok u) b h = absurd (h refl)
+none (Err SheetRefusal.TooLong) b h = refl
+none (Err SheetRefusal.TooShort) b h = refl
+none (Err SheetRefusal.BadMark) b h = refl
+none (Err SheetRefusal.BadDistance) b h = refl
 
 pub returns-in_default : goal.returns-in_default
 unfolding sheet_records

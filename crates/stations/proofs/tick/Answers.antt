@@ -1,24 +1,18 @@
-use mathlib.Core.Path.{◌≡◌}
-use Rattle.rules.specs.Stations.{tick_checks, tick_of}
-use Rattle.checks.specs.Order.{tried_all}
+use Rattle.rules.specs.Stations.{tick_of}
 use Rattle.checks.specs.OrderLaws.{settled_first}
 use Rattle.stations.proofs.tick.Goals as goal
 
 pub returns : goal.returns
 unfolding tick_of
 returns c =
-    let tried : c.or_else-tried-2.result ≡ tried_all (tick_checks c.args.site c.args.n c.args.seen) =
-    rw (
-      c.or_else-tried-2.ensures,
-      c.clock_full.ensures,
-      c.or_else-tried.ensures,
-      c.site_down.ensures,
-      c.refuse-tried.ensures,
-      c.bad_site.ensures,
-    ) in
     rw (
       c.settle.ensures,
-      c.left_site-left.ensures,
-      c.clock_to.ensures,
-      tried,
-    ) (settled_first _ _ _ _ _)
+      c.at_clock.ensures,
+      c.or-tried.ensures,
+      c.clock_full.ensures,
+      c.or.ensures,
+      c.site_down.ensures,
+      c.refuse.ensures,
+      c.bad_site.ensures,
+      c.from.ensures,
+    ) (settled_first _ _ _ _)
