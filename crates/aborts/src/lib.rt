@@ -6,7 +6,7 @@ ghost use Rattle.std.specs.Prelude.{◌≡◌};
 ghost use Rattle.rules.specs.Sane.{Sane};
 ghost use Rattle.rules.specs.Passages.{aborted, abort_of};
 
-use checks::{bad_handle, clock_full, no_passage, or_else, refuse, settle, site_down};
+use checks::{bad_handle, clock_full, no_passage, refuse, settle, site_down};
 use parts::passage::{aborted_passage, is_running};
 use parts::visit::{clock_to, quieted, where_there};
 use rules::looking::Seen;
@@ -16,17 +16,13 @@ use rules::outcomes::{Decision, Refusal};
 fn aborted(clock: u64, seen: Seen) -> Seen
     ensures { result ≡ aborted clock seen }
 {
-    let s = seen.site;
-    let p = seen.passage;
-    let v = seen.visit;
-    let site = clock_to(s, clock);
-    let passage = aborted_passage(p);
-    let visit = where_there(v, quieted(v, clock, false, v.dead));
-    let mut left = seen;
-    left.site = site;
-    left.passage = passage;
-    left.visit = visit;
-    left
+    let visit = seen.visit;
+    Seen {
+        site: clock_to(seen.site, clock),
+        passage: aborted_passage(seen.passage),
+        visit: where_there(visit, quieted(visit, clock, false, visit.dead)),
+        ..seen
+    }
 }
 
 // 10. abort
@@ -34,15 +30,12 @@ pub fn abort(h: u16, seen: Seen) -> Decision
     requires { Sane seen }
     ensures { result ≡ abort_of h seen }
 {
-    let s = seen.site;
-    let p = seen.passage;
-    let status = p.status;
-    let clock = s.clock + 1;
-    let tried = refuse(Refusal::BadField, bad_handle(h));
-    let tried = or_else(tried, no_passage(h, seen));
-    let tried = or_else(tried, site_down(seen));
-    let tried = or_else(tried, refuse(Refusal::WrongState, !is_running(status)));
-    let tried = or_else(tried, clock_full(clock));
-    let left = aborted(clock, seen);
-    settle(tried, 0, left, seen)
+    let clock = seen.site.clock + 1;
+    let running = is_running(seen.passage.status);
+    let tried = refuse(Refusal::BadField, bad_handle(h))
+        .or(no_passage(h, seen))
+        .or(site_down(seen))
+        .or(refuse(Refusal::WrongState, !running))
+        .or(clock_full(clock));
+    settle(tried, 0, aborted(clock, seen), seen)
 }

@@ -3,7 +3,7 @@ ghost use Rattle.std.specs.Prelude.{◌≡◌};
 ghost use Rattle.rules.specs.Sane.{Sane};
 ghost use Rattle.rules.specs.Calls.{collected, deliver_reply_of};
 
-use checks::{bad_message, clock_full, or_else, refuse, settle, site_down};
+use checks::{bad_message, clock_full, refuse, settle, site_down};
 use parts::message::no_message;
 use parts::seen::mail_clock;
 use parts::visit::clock_to;
@@ -14,13 +14,11 @@ use rules::outcomes::{Decision, Refusal};
 fn collected(clock: u64, seen: Seen) -> Seen
     ensures { result ≡ collected clock seen }
 {
-    let s = seen.site;
-    let site = clock_to(s, clock);
-    let message = no_message();
-    let mut left = seen;
-    left.site = site;
-    left.message = message;
-    left
+    Seen {
+        site: clock_to(seen.site, clock),
+        message: no_message(),
+        ..seen
+    }
 }
 
 // 11. deliver of a reply: it gives the value that the call found.
@@ -29,9 +27,8 @@ pub fn deliver_reply(m: u8, value: u32, seen: Seen) -> Decision
     ensures { result ≡ deliver_reply_of m value seen }
 {
     let clock = mail_clock(seen);
-    let tried = refuse(Refusal::BadField, bad_message(m));
-    let tried = or_else(tried, site_down(seen));
-    let tried = or_else(tried, clock_full(clock));
-    let left = collected(clock, seen);
-    settle(tried, value as u64, left, seen)
+    let tried = refuse(Refusal::BadField, bad_message(m))
+        .or(site_down(seen))
+        .or(clock_full(clock));
+    settle(tried, u64::from(value), collected(clock, seen), seen)
 }

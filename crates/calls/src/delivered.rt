@@ -3,7 +3,7 @@ ghost use Rattle.std.specs.Prelude.{◌≡◌};
 ghost use Rattle.rules.specs.Sane.{Sane};
 ghost use Rattle.rules.specs.Calls.{called_visit, called_object, reply_to, called, deliver_call_of};
 
-use checks::{bad_message, clock_full, or_else, refuse, settle, site_down};
+use checks::{bad_message, clock_full, refuse, settle, site_down};
 use parts::message::plain_message;
 use parts::object::{is_held_by_other, operated, taken};
 use parts::seen::{mail_clock, mail_slot};
@@ -28,9 +28,7 @@ fn called_visit(call: Call, v: Visit) -> Visit
 fn called_object(call: Call, seen: Seen) -> Object
     ensures { result ≡ called_object call seen }
 {
-    let objects = seen.objects;
-    let at = (call.object % 4) as usize;
-    objects[at]
+    seen.objects[usize::from(call.object % 4)]
 }
 
 // The reply, with the value before the operation, from this site to the one that called.
@@ -38,11 +36,9 @@ fn reply_to(call: Call, clock: u64, seen: Seen) -> Message
     ensures { result ≡ reply_to call clock seen }
 {
     let m = seen.message;
-    let object = called_object(call, seen);
+    let value = called_object(call, seen).value;
     plain_message(
-        Body::Reply {
-            value: object.value,
-        },
+        Body::Reply { value },
         m.destination,
         m.source,
         m.handle,
@@ -55,22 +51,16 @@ fn called(call: Call, clock: u64, seen: Seen) -> Seen
     requires { Sane seen }
     ensures { result ≡ called call clock seen }
 {
-    let s = seen.site;
-    let v = seen.visit;
-    let slot = mail_slot(seen);
-    let site = clock_to(s, clock);
-    let visit = count_received(called_visit(call, v));
-    let message = reply_to(call, clock, seen);
     let mut objects = seen.objects;
-    let at = (call.object % 4) as usize;
-    let object = operated(call, taken(slot, objects[at]));
-    objects[at] = object;
-    let mut left = seen;
-    left.site = site;
-    left.visit = visit;
-    left.message = message;
-    left.objects = objects;
-    left
+    let at = usize::from(call.object % 4);
+    objects[at] = operated(call, taken(mail_slot(seen), objects[at]));
+    Seen {
+        site: clock_to(seen.site, clock),
+        visit: count_received(called_visit(call, seen.visit)),
+        message: reply_to(call, clock, seen),
+        objects,
+        ..seen
+    }
 }
 
 // 11. deliver of a call.
@@ -80,19 +70,13 @@ pub fn deliver_call(m: u8, call: Call, seen: Seen) -> Decision
 {
     let clock = mail_clock(seen);
     let v = called_visit(call, seen.visit);
-    let object = called_object(call, seen);
-    let tried = refuse(Refusal::BadField, bad_message(m));
-    let tried = or_else(tried, site_down(seen));
-    let tried = or_else(tried, clock_full(clock));
-    let tried = or_else(
-        tried,
-        refuse(Refusal::Quiesced, (v.quiesce as u64 <= clock) | v.dead),
-    );
-    let tried = or_else(
-        tried,
-        refuse(Refusal::Held, is_held_by_other(mail_slot(seen), object)),
-    );
-    let tried = or_else(tried, refuse(Refusal::NoCallLeft, COUNT_MOST <= v.received));
-    let left = called(call, clock, seen);
-    settle(tried, 0, left, seen)
+    let quiet = (u64::from(v.quiesce) <= clock) | v.dead;
+    let held = is_held_by_other(mail_slot(seen), called_object(call, seen));
+    let tried = refuse(Refusal::BadField, bad_message(m))
+        .or(site_down(seen))
+        .or(clock_full(clock))
+        .or(refuse(Refusal::Quiesced, quiet))
+        .or(refuse(Refusal::Held, held))
+        .or(refuse(Refusal::NoCallLeft, COUNT_MOST <= v.received));
+    settle(tried, 0, called(call, clock, seen), seen)
 }

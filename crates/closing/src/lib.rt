@@ -6,9 +6,8 @@ ghost use Rattle.std.specs.Prelude.{◌≡◌};
 ghost use Rattle.rules.specs.Sane.{Sane};
 ghost use Rattle.rules.specs.Rounds.{round_told, closed_passage, objects_where_there, closed, close_of};
 
-use checks::{bad_handle, clock_full, no_passage, or_else, refuse, settle, site_down};
+use checks::{bad_handle, clock_full, no_passage, refuse, settle, site_down};
 use parts::object::told_objects;
-use parts::passage::{with_round, with_status};
 use parts::round::{
     answer_count, is_closed, is_phase_one, largest_quiesce, told_of, told_status, with_phase,
 };
@@ -21,18 +20,17 @@ use rules::tables::{Object, Passage, Phase, Round, Told, Visit};
 pub fn round_told(round: Round) -> Told
     ensures { result ≡ round_told round }
 {
-    let kind = round.kind;
-    told_of(kind, largest_quiesce(round))
+    told_of(round.kind, largest_quiesce(round))
 }
 
 fn closed_passage(told: Told, p: Passage) -> Passage
     ensures { result ≡ closed_passage told p }
 {
-    let before = p.status;
-    let status = told_status(told, before);
-    let old = p.round;
-    let round = with_phase(old, Phase::Two);
-    with_round(with_status(p, status), round)
+    Passage {
+        status: told_status(told, p.status),
+        round: with_phase(p.round, Phase::Two),
+        ..p
+    }
 }
 
 fn objects_where_there(v: Visit, changed: [Object; 4], objects: [Object; 4]) -> [Object; 4]
@@ -45,21 +43,15 @@ fn objects_where_there(v: Visit, changed: [Object; 4], objects: [Object; 4]) -> 
 fn closed(told: Told, slot: u8, clock: u64, seen: Seen) -> Seen
     ensures { result ≡ closed told slot clock seen }
 {
-    let s = seen.site;
-    let p = seen.passage;
-    let v = seen.visit;
-    let held = seen.objects;
-    let site = clock_to(s, clock);
-    let passage = closed_passage(told, p);
-    let visit = where_there(v, told_visit(told, v));
-    let changed = told_objects(told, slot, held);
-    let objects = objects_where_there(v, changed, held);
-    let mut left = seen;
-    left.site = site;
-    left.passage = passage;
-    left.visit = visit;
-    left.objects = objects;
-    left
+    let visit = seen.visit;
+    let freed = told_objects(told, slot, seen.objects);
+    Seen {
+        site: clock_to(seen.site, clock),
+        passage: closed_passage(told, seen.passage),
+        visit: where_there(visit, told_visit(told, visit)),
+        objects: objects_where_there(visit, freed, seen.objects),
+        ..seen
+    }
 }
 
 // 8. close
@@ -67,17 +59,15 @@ pub fn close(h: u16, seen: Seen) -> Decision
     requires { Sane seen }
     ensures { result ≡ close_of h seen }
 {
-    let s = seen.site;
-    let p = seen.passage;
-    let round = p.round;
-    let phase = round.phase;
-    let clock = s.clock + 1;
-    let tried = refuse(Refusal::BadField, bad_handle(h));
-    let tried = or_else(tried, no_passage(h, seen));
-    let tried = or_else(tried, site_down(seen));
-    let tried = or_else(tried, refuse(Refusal::WrongState, !is_phase_one(phase)));
-    let tried = or_else(tried, clock_full(clock));
-    let tried = or_else(tried, refuse(Refusal::NotClosed, !is_closed(round)));
+    let round = seen.passage.round;
+    let clock = seen.site.clock + 1;
+    let tried = refuse(Refusal::BadField, bad_handle(h))
+        .or(no_passage(h, seen))
+        .or(site_down(seen))
+        .or(refuse(Refusal::WrongState, !is_phase_one(round.phase)))
+        .or(clock_full(clock))
+        .or(refuse(Refusal::NotClosed, !is_closed(round)));
+    let count = answer_count(round);
     let left = closed(round_told(round), (h % 16) as u8, clock, seen);
-    settle(tried, answer_count(round) as u64, left, seen)
+    settle(tried, u64::from(count), left, seen)
 }

@@ -5,7 +5,7 @@ ghost use Rattle.rules.specs.Calls.{empty_of, answered_at, deliver_answer_of, de
 
 use calls::collected::deliver_reply;
 use calls::delivered::deliver_call;
-use checks::{bad_message, clock_full, no_mail, or_else, refuse, settle, site_down};
+use checks::{bad_message, clock_full, no_mail, refuse, settle, site_down};
 use parts::message::no_message;
 use parts::passage::{is_free, with_round};
 use parts::round::{is_phase_one, with_answer};
@@ -20,8 +20,7 @@ use rules::tables::{Body, Figures};
 fn deliver_empty(m: u8, seen: Seen) -> Decision
     ensures { result ≡ empty_of m seen }
 {
-    let tried = refuse(Refusal::BadField, bad_message(m));
-    let tried = or_else(tried, no_mail(seen));
+    let tried = refuse(Refusal::BadField, bad_message(m)).or(no_mail(seen));
     settle(tried, 0, seen, seen)
 }
 
@@ -30,19 +29,14 @@ fn answered_at(f: Figures, clock: u64, seen: Seen) -> Seen
     requires { Sane seen }
     ensures { result ≡ answered_at f clock seen }
 {
-    let s = seen.site;
-    let p = seen.passage;
-    let m = seen.message;
-    let source = m.source as usize;
-    let old = p.round;
-    let site = clock_to(s, clock);
-    let passage = with_round(p, with_answer(old, source, f));
-    let message = no_message();
-    let mut left = seen;
-    left.site = site;
-    left.passage = passage;
-    left.message = message;
-    left
+    let passage = seen.passage;
+    let source = usize::from(seen.message.source);
+    Seen {
+        site: clock_to(seen.site, clock),
+        passage: with_round(passage, with_answer(passage.round, source, f)),
+        message: no_message(),
+        ..seen
+    }
 }
 
 // 11. deliver of an answer.
@@ -51,29 +45,20 @@ fn deliver_answer(m: u8, number: u16, received: u16, quiesce: u32, seen: Seen) -
     ensures { result ≡ deliver_answer_of m number received quiesce seen }
 {
     let clock = mail_clock(seen);
-    let p = seen.passage;
-    let status = p.status;
-    let round = p.round;
-    let phase = round.phase;
-    let mail = seen.message;
-    let sent = mail.sent;
-    let tried = refuse(Refusal::BadField, bad_message(m));
-    let tried = or_else(tried, site_down(seen));
-    let tried = or_else(tried, clock_full(clock));
-    let tried = or_else(
-        tried,
-        refuse(
-            Refusal::WrongRound,
-            is_free(status) | !is_phase_one(phase) | !(number == round.number),
-        ),
-    );
+    let passage = seen.passage;
+    let round = passage.round;
+    let wrong = is_free(passage.status) | !is_phase_one(round.phase) | (number != round.number);
+    let tried = refuse(Refusal::BadField, bad_message(m))
+        .or(site_down(seen))
+        .or(clock_full(clock))
+        .or(refuse(Refusal::WrongRound, wrong));
+    let sent = seen.message.sent;
     let figures = Figures {
-        sent: sent,
-        received: received,
-        quiesce: quiesce,
+        sent,
+        received,
+        quiesce,
     };
-    let left = answered_at(figures, clock, seen);
-    settle(tried, 0, left, seen)
+    settle(tried, 0, answered_at(figures, clock, seen), seen)
 }
 
 // 11. deliver, by what the message slot holds.
@@ -82,9 +67,7 @@ pub fn deliver(m: u8, seen: Seen) -> Decision
     requires { Sane seen }
     ensures { result ≡ deliver_of m seen }
 {
-    let mail = seen.message;
-    let body = mail.body;
-    match body {
+    match seen.message.body {
         Body::Empty => deliver_empty(m, seen),
         Body::Call(call) => deliver_call(m, call, seen),
         Body::PhaseOne { number, asked } => deliver_phase_one(m, number, asked, seen),

@@ -2,7 +2,7 @@
 ghost use Rattle.std.specs.Prelude.{◌≡◌};
 ghost use Rattle.rules.specs.Calls.{lost, drop_of};
 
-use checks::{bad_message, no_mail, or_else, refuse, settle};
+use checks::{bad_message, no_mail, refuse, settle};
 use parts::message::no_message;
 use rules::looking::Seen;
 use rules::outcomes::{Decision, Refusal};
@@ -11,18 +11,16 @@ use rules::outcomes::{Decision, Refusal};
 fn lost(seen: Seen) -> Seen
     ensures { result ≡ lost seen }
 {
-    let message = no_message();
-    let mut left = seen;
-    left.message = message;
-    left
+    Seen {
+        message: no_message(),
+        ..seen
+    }
 }
 
 // 12. drop
 pub fn drop(m: u8, seen: Seen) -> Decision
     ensures { result ≡ drop_of m seen }
 {
-    let tried = refuse(Refusal::BadField, bad_message(m));
-    let tried = or_else(tried, no_mail(seen));
-    let left = lost(seen);
-    settle(tried, 0, left, seen)
+    let tried = refuse(Refusal::BadField, bad_message(m)).or(no_mail(seen));
+    settle(tried, 0, lost(seen), seen)
 }

@@ -7,10 +7,9 @@ ghost use Rattle.rules.specs.Sane.{Sane};
 ghost use Rattle.rules.specs.Rounds.{opened_visit, opened_passage, opened, open_of, refresh_of, terminate_of, prepare_of};
 
 use checks::{
-    bad_handle, bad_times, clock_full, no_passage, or_else, refuse, settle, site_down,
-    visit_missing,
+    bad_handle, bad_times, clock_full, no_passage, refuse, settle, site_down, visit_missing,
 };
-use parts::passage::{is_aborted, is_active, is_running, with_round, with_status};
+use parts::passage::{is_aborted, is_active, is_running};
 use parts::round::{asked_of, asked_status, opened_round, with_answer};
 use parts::visit::{asked_visit, clock_to, figures_of};
 use rules::limits::COUNT_MOST;
@@ -23,10 +22,8 @@ fn opened_visit(kind: Kind, clock: u64, seen: Seen) -> Visit
     requires { Sane seen }
     ensures { result ≡ opened_visit kind clock seen }
 {
-    let p = seen.passage;
-    let round = p.round;
-    let v = seen.visit;
-    asked_visit(asked_of(kind), round.number + 1, clock, v)
+    let number = seen.passage.round.number + 1;
+    asked_visit(asked_of(kind), number, clock, seen.visit)
 }
 
 // The passage with its round open, home's figures kept and home answering.
@@ -34,12 +31,10 @@ fn opened_passage(kind: Kind, p: Passage, v: Visit) -> Passage
     requires { (p.home ≤ 7) × (p.round.number ≤ 1000) }
     ensures { result ≡ opened_passage kind p v }
 {
-    let before = p.status;
-    let status = asked_status(asked_of(kind), before);
-    let old = p.round;
-    let home = p.home as usize;
-    let round = with_answer(opened_round(old, kind), home, figures_of(v));
-    with_round(with_status(p, status), round)
+    let status = asked_status(asked_of(kind), p.status);
+    let home = usize::from(p.home);
+    let round = with_answer(opened_round(p.round, kind), home, figures_of(v));
+    Passage { status, round, ..p }
 }
 
 // What opening a round leaves at this clock.
@@ -47,16 +42,13 @@ fn opened(kind: Kind, clock: u64, seen: Seen) -> Seen
     requires { Sane seen }
     ensures { result ≡ opened kind clock seen }
 {
-    let s = seen.site;
-    let p = seen.passage;
-    let site = clock_to(s, clock);
     let visit = opened_visit(kind, clock, seen);
-    let passage = opened_passage(kind, p, visit);
-    let mut left = seen;
-    left.site = site;
-    left.passage = passage;
-    left.visit = visit;
-    left
+    Seen {
+        site: clock_to(seen.site, clock),
+        passage: opened_passage(kind, seen.passage, visit),
+        visit,
+        ..seen
+    }
 }
 
 // What refresh, terminate and prepare share: a round opens, unless a field is bad, the status wrong, or the rest of the table refuses.
@@ -64,23 +56,21 @@ fn open(h: u16, kind: Kind, bad: bool, wrong: bool, seen: Seen) -> Decision
     requires { Sane seen }
     ensures { result ≡ open_of h kind bad wrong seen }
 {
-    let s = seen.site;
-    let p = seen.passage;
-    let round = p.round;
-    let number = round.number + 1;
-    let clock = s.clock + 1;
-    let tried = refuse(Refusal::BadField, bad);
-    let tried = or_else(tried, no_passage(h, seen));
-    let tried = or_else(tried, site_down(seen));
-    let tried = or_else(tried, refuse(Refusal::WrongState, wrong));
-    let tried = or_else(tried, visit_missing(seen));
-    let tried = or_else(tried, clock_full(clock));
-    let tried = or_else(
+    let number = seen.passage.round.number;
+    let clock = seen.site.clock + 1;
+    let tried = refuse(Refusal::BadField, bad)
+        .or(no_passage(h, seen))
+        .or(site_down(seen))
+        .or(refuse(Refusal::WrongState, wrong))
+        .or(visit_missing(seen))
+        .or(clock_full(clock))
+        .or(refuse(Refusal::NoRoundLeft, COUNT_MOST <= number));
+    settle(
         tried,
-        refuse(Refusal::NoRoundLeft, COUNT_MOST <= round.number),
-    );
-    let left = opened(kind, clock, seen);
-    settle(tried, number as u64, left, seen)
+        u64::from(number + 1),
+        opened(kind, clock, seen),
+        seen,
+    )
 }
 
 // 4. refresh
@@ -88,19 +78,9 @@ pub fn refresh(h: u16, quiesce: u32, release: u32, seen: Seen) -> Decision
     requires { Sane seen }
     ensures { result ≡ refresh_of h quiesce release seen }
 {
-    let p = seen.passage;
-    let status = p.status;
-    let kind = Kind::Refresh {
-        quiesce: quiesce,
-        release: release,
-    };
-    open(
-        h,
-        kind,
-        bad_handle(h) | bad_times(quiesce, release),
-        !is_active(status),
-        seen,
-    )
+    let kind = Kind::Refresh { quiesce, release };
+    let bad = bad_handle(h) | bad_times(quiesce, release);
+    open(h, kind, bad, !is_active(seen.passage.status), seen)
 }
 
 // 5. terminate
@@ -108,9 +88,8 @@ pub fn terminate(h: u16, seen: Seen) -> Decision
     requires { Sane seen }
     ensures { result ≡ terminate_of h seen }
 {
-    let p = seen.passage;
-    let status = p.status;
-    open(h, Kind::Terminate, bad_handle(h), !is_aborted(status), seen)
+    let wrong = !is_aborted(seen.passage.status);
+    open(h, Kind::Terminate, bad_handle(h), wrong, seen)
 }
 
 // 6. prepare
@@ -118,7 +97,6 @@ pub fn prepare(h: u16, seen: Seen) -> Decision
     requires { Sane seen }
     ensures { result ≡ prepare_of h seen }
 {
-    let p = seen.passage;
-    let status = p.status;
-    open(h, Kind::Prepare, bad_handle(h), !is_running(status), seen)
+    let wrong = !is_running(seen.passage.status);
+    open(h, Kind::Prepare, bad_handle(h), wrong, seen)
 }

@@ -6,9 +6,7 @@ ghost use Rattle.std.specs.Prelude.{◌≡◌};
 ghost use Rattle.rules.specs.Sane.{Sane};
 ghost use Rattle.rules.specs.Rounds.{sent_out, ask_body, ask_of, tell_body, tell_of};
 
-use checks::{
-    bad_handle, bad_site, clock_full, is_full, no_passage, or_else, refuse, settle, site_down,
-};
+use checks::{bad_handle, bad_site, clock_full, is_full, no_passage, refuse, settle, site_down};
 use closing::round_told;
 use parts::message::plain_message;
 use parts::round::{asked_of, has_answered, is_phase_one, is_phase_two};
@@ -21,23 +19,19 @@ use rules::tables::{Body, Round};
 fn sent_out(body: Body, h: u16, site: u8, clock: u64, seen: Seen) -> Seen
     ensures { result ≡ sent_out body h site clock seen }
 {
-    let s = seen.site;
-    let moved = clock_to(s, clock);
-    let passage = seen.passage;
-    let message = plain_message(body, passage.home, site, h, clock);
-    let mut left = seen;
-    left.site = moved;
-    left.message = message;
-    left
+    Seen {
+        site: clock_to(seen.site, clock),
+        message: plain_message(body, seen.passage.home, site, h, clock),
+        ..seen
+    }
 }
 
 fn ask_body(round: Round) -> Body
     ensures { result ≡ ask_body round }
 {
-    let kind = round.kind;
     Body::PhaseOne {
         number: round.number,
-        asked: asked_of(kind),
+        asked: asked_of(round.kind),
     }
 }
 
@@ -46,21 +40,16 @@ pub fn ask(h: u16, site: u8, place: usize, seen: Seen) -> Decision
     requires { Sane seen }
     ensures { result ≡ ask_of h site place seen }
 {
-    let s = seen.site;
-    let p = seen.passage;
-    let round = p.round;
-    let phase = round.phase;
-    let clock = s.clock + 1;
-    let tried = refuse(Refusal::BadField, bad_handle(h) | bad_site(site));
-    let tried = or_else(tried, no_passage(h, seen));
-    let tried = or_else(tried, site_down(seen));
-    let tried = or_else(
-        tried,
-        refuse(Refusal::WrongState, !is_phase_one(phase) | (site == p.home)),
-    );
-    let tried = or_else(tried, clock_full(clock));
-    let tried = or_else(tried, refuse(Refusal::Full, is_full(seen)));
-    let left = sent_out(ask_body(round), h, site, clock, seen);
+    let passage = seen.passage;
+    let clock = seen.site.clock + 1;
+    let wrong = !is_phase_one(passage.round.phase) | (site == passage.home);
+    let tried = refuse(Refusal::BadField, bad_handle(h) | bad_site(site))
+        .or(no_passage(h, seen))
+        .or(site_down(seen))
+        .or(refuse(Refusal::WrongState, wrong))
+        .or(clock_full(clock))
+        .or(refuse(Refusal::Full, is_full(seen)));
+    let left = sent_out(ask_body(passage.round), h, site, clock, seen);
     settle(tried, place as u64, left, seen)
 }
 
@@ -78,24 +67,17 @@ pub fn tell(h: u16, site: u8, place: usize, seen: Seen) -> Decision
     requires { Sane seen }
     ensures { result ≡ tell_of h site place seen }
 {
-    let s = seen.site;
-    let p = seen.passage;
-    let round = p.round;
-    let phase = round.phase;
-    let clock = s.clock + 1;
-    let answered = has_answered(round, (site % 8) as usize);
-    let tried = refuse(Refusal::BadField, bad_handle(h) | bad_site(site));
-    let tried = or_else(tried, no_passage(h, seen));
-    let tried = or_else(tried, site_down(seen));
-    let tried = or_else(
-        tried,
-        refuse(
-            Refusal::WrongState,
-            !is_phase_two(phase) | !answered | (site == p.home),
-        ),
-    );
-    let tried = or_else(tried, clock_full(clock));
-    let tried = or_else(tried, refuse(Refusal::Full, is_full(seen)));
+    let passage = seen.passage;
+    let round = passage.round;
+    let clock = seen.site.clock + 1;
+    let answered = has_answered(round, usize::from(site % 8));
+    let wrong = !is_phase_two(round.phase) | !answered | (site == passage.home);
+    let tried = refuse(Refusal::BadField, bad_handle(h) | bad_site(site))
+        .or(no_passage(h, seen))
+        .or(site_down(seen))
+        .or(refuse(Refusal::WrongState, wrong))
+        .or(clock_full(clock))
+        .or(refuse(Refusal::Full, is_full(seen)));
     let left = sent_out(tell_body(round), h, site, clock, seen);
     settle(tried, place as u64, left, seen)
 }

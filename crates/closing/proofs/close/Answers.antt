@@ -1,33 +1,28 @@
-use mathlib.Core.Path.{◌≡◌}
-use Rattle.rules.specs.Rounds.{close_checks, close_of}
-use Rattle.checks.specs.Order.{tried_all}
+use Rattle.rules.specs.Rounds.{close_of}
 use Rattle.checks.specs.OrderLaws.{settled_first}
 use Rattle.closing.proofs.close.Goals as goal
 
 pub returns : goal.returns
 unfolding close_of
 returns c =
-    let tried : c.or_else-tried-5.result ≡ tried_all (close_checks c.args.h c.args.seen) =
-    rw (
-      c.or_else-tried-5.ensures,
-      c.refuse-2.ensures,
-      c.is_closed.ensures,
-      c.or_else-tried-4.ensures,
-      c.clock_full.ensures,
-      c.or_else-tried-3.ensures,
-      c.refuse.ensures,
-      c.is_phase_one.ensures,
-      c.or_else-tried-2.ensures,
-      c.site_down.ensures,
-      c.or_else-tried.ensures,
-      c.no_passage.ensures,
-      c.refuse-tried.ensures,
-      c.bad_handle.ensures,
-    ) in
     rw (
       c.settle.ensures,
-      c.answer_count.ensures,
+      c.from.ensures,
       c.closed-left.ensures,
       c.round_told.ensures,
-      tried,
-    ) (settled_first _ _ _ _ _)
+      c.answer_count-count.ensures,
+      c.or-tried.ensures,
+      c.refuse-3.ensures,
+      c.is_closed.ensures,
+      c.or-4.ensures,
+      c.clock_full.ensures,
+      c.or-3.ensures,
+      c.refuse-2.ensures,
+      c.is_phase_one.ensures,
+      c.or-2.ensures,
+      c.site_down.ensures,
+      c.or.ensures,
+      c.no_passage.ensures,
+      c.refuse.ensures,
+      c.bad_handle.ensures,
+    ) (settled_first _ _ _ _)

@@ -4,4 +4,4 @@ use Rattle.opening.proofs.prepare.Goals as goal
 
 pub returns : goal.returns
 unfolding prepare_of first_refusal
-returns c = rw (c.«open».ensures, c.is_running.ensures, c.bad_handle.ensures)
+returns c = rw (c.«open».ensures, c.is_running-wrong.ensures, c.bad_handle.ensures)

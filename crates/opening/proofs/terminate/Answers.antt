@@ -4,4 +4,4 @@ use Rattle.opening.proofs.terminate.Goals as goal
 
 pub returns : goal.returns
 unfolding terminate_of first_refusal
-returns c = rw (c.«open».ensures, c.is_aborted.ensures, c.bad_handle.ensures)
+returns c = rw (c.«open».ensures, c.is_aborted-wrong.ensures, c.bad_handle.ensures)

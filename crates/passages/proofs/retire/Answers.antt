@@ -1,20 +1,18 @@
-use Rattle.std.proofs.Common.{◌≡◌}
-use Rattle.rules.specs.Passages.{retire_checks, retire_of}
-use Rattle.checks.specs.Order.{tried_all}
+use Rattle.rules.specs.Passages.{retire_of}
 use Rattle.checks.specs.OrderLaws.{settled_first}
 use Rattle.passages.proofs.retire.Goals as goal
 
 pub returns : goal.returns
 unfolding retire_of
 returns c =
-    let tried : c.or_else-tried-2.result ≡ tried_all (retire_checks c.args.h c.args.remains c.args.seen) =
     rw (
-      c.or_else-tried-2.ensures,
-      c.refuse.ensures,
-      c.is_over.ensures,
-      c.or_else-tried.ensures,
+      c.settle.ensures,
+      c.retired.ensures,
+      c.or-tried.ensures,
+      c.refuse-2.ensures,
+      c.or.ensures,
       c.no_passage.ensures,
-      c.refuse-tried.ensures,
+      c.refuse.ensures,
       c.bad_handle.ensures,
-    ) in
-    rw (c.settle.ensures, c.retired-left.ensures, tried) (settled_first _ _ _ _ _)
+      c.is_over-over.ensures,
+    ) (settled_first _ _ _ _)

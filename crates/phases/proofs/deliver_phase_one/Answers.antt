@@ -7,8 +7,8 @@ unfolding deliver_phase_one_of
 returns c =
     rw (
       c.settle.ensures,
-      c.asked_at-left.ensures,
+      c.asked_at.ensures,
       c.round_tried-tried.ensures,
       c.asks_life.ensures,
       c.mail_clock-clock.ensures,
-    ) (settled_first _ _ _ _ _)
+    ) (settled_first _ _ _ _)

@@ -7,8 +7,8 @@ unfolding deliver_phase_two_of
 returns c =
     rw (
       c.settle.ensures,
-      c.told_at-left.ensures,
+      c.told_at.ensures,
       c.round_tried-tried.ensures,
       c.tells_life.ensures,
       c.mail_clock-clock.ensures,
-    ) (settled_first _ _ _ _ _)
+    ) (settled_first _ _ _ _)

@@ -1,34 +1,27 @@
-use mathlib.Core.Path.{◌≡◌}
-use borrow.Author.Rules.{rules}
-use Rattle.rules.specs.Rounds.{ask_checks, ask_of}
-use Rattle.checks.specs.Order.{tried_all}
+use Rattle.rules.specs.Rounds.{ask_of}
 use Rattle.checks.specs.OrderLaws.{settled_first}
 use Rattle.rounds.proofs.ask.Goals as goal
 
 pub returns : goal.returns
 unfolding ask_of
 returns c =
-    let tried : c.or_else-tried-5.result ≡ tried_all (ask_checks c.args.h c.args.site c.args.seen) =
-    rw (
-      c.or_else-tried-5.ensures,
-      c.refuse-2.ensures,
-      c.is_full.ensures,
-      c.or_else-tried-4.ensures,
-      c.clock_full.ensures,
-      c.or_else-tried-3.ensures,
-      c.refuse.ensures,
-      c.is_phase_one.ensures,
-      c.or_else-tried-2.ensures,
-      c.site_down.ensures,
-      c.or_else-tried.ensures,
-      c.no_passage.ensures,
-      c.refuse-tried.ensures,
-      c.bad_site.ensures,
-      c.bad_handle.ensures,
-    ) in
     rw (
       c.settle.ensures,
       c.sent_out-left.ensures,
       c.ask_body.ensures,
-      tried,
-    ) (settled_first _ _ _ _ _)
+      c.or-tried.ensures,
+      c.refuse-3.ensures,
+      c.is_full.ensures,
+      c.or-4.ensures,
+      c.clock_full.ensures,
+      c.or-3.ensures,
+      c.refuse-2.ensures,
+      c.or-2.ensures,
+      c.site_down.ensures,
+      c.or.ensures,
+      c.no_passage.ensures,
+      c.refuse.ensures,
+      c.bad_site.ensures,
+      c.bad_handle.ensures,
+      c.is_phase_one.ensures,
+    ) (settled_first _ _ _ _)
