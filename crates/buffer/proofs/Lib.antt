@@ -1,3 +1,3 @@
--- Laws that the proofs of buffer cite. Assumes nothing.
-mod Pieces
+-- Laws of pages and of numbers as they are spelt. Assumes nothing.
+pub mod Pages
 mod Spelt

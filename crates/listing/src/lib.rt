@@ -2,27 +2,24 @@
 #![tactic(auto)]
 
 ghost use Rattle.std.specs.Prelude.{◌*◌, ◌≤◌, length};
+ghost use Rattle.buffer.specs.Page.{HasRoom, Writes};
 ghost use Rattle.buffer.specs.Text.{Puts};
 ghost use Rattle.running.specs.Answered.{HoldsAnswers};
 ghost use Rattle.rules.specs.Listing.{printed_up_to, listing_of};
 
-use buffer::{put_line, put_sheet_line};
+use buffer::Page;
 use rules::steps::SheetAnswer;
 use running::run;
 use sheet::{sheet_answer, sheet_number, sheet_records};
 
 // The lines of the first n records of a part, by their answers.
-fn put_lines(part: &[u8], answers: &[u64], n: usize, out: &mut [u8]) -> usize
-    requires { (2 * n ≤ length answers.now) × (64 * n ≤ length out.old) × HoldsAnswers part.now n answers.now }
-    ensures { Puts out.old 0 (printed_up_to part.now n).text out.new result × (result ≤ 64 * n) }
+fn put_lines(page: &mut Page<'_>, part: &[u8], answers: &[u64], n: usize)
+    requires { (2 * n ≤ length answers.now) × HasRoom page.old (64 * n) × HoldsAnswers part.now n answers.now }
+    ensures { Writes page.old page.new (printed_up_to part.now n).text }
 {
-    let mut at: usize = 0;
-    let mut i: usize = 0;
-    while i < n {
-        at = put_line(out, at, (i + 1) as u64, answers[2 * i], answers[2 * i + 1]);
-        i += 1;
+    for i in 0..n {
+        page.put_line((i + 1) as u64, answers[2 * i], answers[2 * i + 1]);
     }
-    at
 }
 
 // The whole text of a sheet's listing, at the front of the caller's buffer, which has room for any; the answer is its length.
@@ -30,13 +27,16 @@ fn put_lines(part: &[u8], answers: &[u64], n: usize, out: &mut [u8]) -> usize
 pub fn list(sheet: &[u8], out: &mut [u8; 262144]) -> usize
     ensures { Puts out.old 0 (listing_of sheet.now) out.new result × (result ≤ length out.new) }
 {
+    let mut page = Page::new(out);
     let answer = sheet_answer(sheet);
     let Ok(()) = answer else {
-        return put_sheet_line(out, 0, sheet_number(answer));
+        page.put_sheet_line(sheet_number(answer));
+        return page.len();
     };
     let part = sheet_records(sheet);
     let n = part.len() / 16;
     let mut answers = [0u64; 8192];
     run(part, n, &mut answers);
-    put_lines(part, &answers, n, out)
+    put_lines(&mut page, part, &answers, n);
+    page.len()
 }

@@ -1,11 +1,10 @@
 -- One piece of a line more, and one byte in hex more. Assumes nothing.
-use Rattle.std.specs.Prelude.{ℕ, ◌+◌, ◌*◌, ◌≤◌, ◌<◌, ◌≡◌, List, [], ◌∷◌, ◌++◌, map, length, get_or, take}
-use Rattle.std.proofs.Common.{refl, add-one, arith}
+use Rattle.std.specs.Prelude.{ℕ, ◌+◌, ◌<◌, ◌≡◌, List, [], ◌∷◌, ◌++◌, map, length, get_or, take}
+use Rattle.std.proofs.Common.{refl, add-one}
 use Rattle.std.proofs.Math.Seq.{take-suc}
 use Rattle.words.specs.declared.tokens.Piece.{Piece}
 use Rattle.words.specs.Say.{piece_token, token_text, rest_text, hex_text}
-use Rattle.words.proofs.TextLaws.{token_length, rest_more, hex_more}
-use Rattle.buffer.specs.Text.{Puts, put_both}
+use Rattle.words.proofs.TextLaws.{rest_more, hex_more}
 
 tokens_more : (ps : List Piece) (p : Piece) → map piece_token (ps ++ (p ∷ [])) ≡ map piece_token ps ++ (piece_token p ∷ [])
 tokens_more [] p = refl
@@ -23,13 +22,3 @@ pub bytes_more :
     → hex_text (take i bs) ++ hex_text (get_or bs i 0 ∷ []) ≡ hex_text (take (i + 1) bs)
 unfolding hex_text
 bytes_more bs i h = rw (add-one i, take-suc bs i 0 h, hex_more (take i bs) (get_or bs i 0))
-
--- pieces that have been put, and one more
-pub pieces_put :
-    (ps : List Piece) (i : ℕ) (d : Piece) {buf mid last : List ℕ} {at m n : ℕ} → at ≤ length buf → i < length ps → m ≤ at + 11 * i
-    → Puts buf at (rest_text (map piece_token (take i ps))) mid m → Puts mid m (32 ∷ token_text (piece_token (get_or ps i d))) last n
-    → Puts buf at (rest_text (map piece_token (take (i + 1) ps))) last n × (n ≤ at + 11 * (i + 1))
-pieces_put ps i d {buf} {mid} {last} {at} {m} {n} l h w p q =
-    let e : n ≡ m + length (32 ∷ token_text (piece_token (get_or ps i d))) = q.ends in
-    let t : length (token_text (piece_token (get_or ps i d))) ≤ 10 = token_length (piece_token (get_or ps i d)) in
-    (rw (pieces_more ps i d h) at (put_both l p q), omega arith)
