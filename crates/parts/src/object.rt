@@ -44,11 +44,9 @@ pub fn operated(call: Call, o: Object) -> Object
     ensures { result ≡ operated call o }
 {
     if call.write {
-        let holder = o.holder;
         Object {
             value: call.value,
-            holder: holder,
-            before: o.before,
+            ..o
         }
     } else {
         o
@@ -59,7 +57,7 @@ pub fn unheld(value: u32) -> Object
     ensures { result ≡ unheld value }
 {
     Object {
-        value: value,
+        value,
         holder: Holder::Nobody,
         before: 0,
     }
@@ -69,8 +67,7 @@ pub fn unheld(value: u32) -> Object
 fn freed(slot: u8, o: Object) -> Object
     ensures { result ≡ freed slot o }
 {
-    let holder = o.holder;
-    if is_slot(slot, holder) {
+    if is_slot(slot, o.holder) {
         unheld(o.value)
     } else {
         o
@@ -81,8 +78,7 @@ fn freed(slot: u8, o: Object) -> Object
 fn restored(slot: u8, o: Object) -> Object
     ensures { result ≡ restored slot o }
 {
-    let holder = o.holder;
-    if is_slot(slot, holder) {
+    if is_slot(slot, o.holder) {
         unheld(o.before)
     } else {
         o
@@ -92,21 +88,13 @@ fn restored(slot: u8, o: Object) -> Object
 fn freed_all(slot: u8, os: [Object; 4]) -> [Object; 4]
     ensures { result ≡ each_of (freed slot) os }
 {
-    let a = freed(slot, os[0]);
-    let b = freed(slot, os[1]);
-    let c = freed(slot, os[2]);
-    let d = freed(slot, os[3]);
-    [a, b, c, d]
+    os.map(|o| freed(slot, o))
 }
 
 pub fn restored_all(slot: u8, os: [Object; 4]) -> [Object; 4]
     ensures { result ≡ each_of (restored slot) os }
 {
-    let a = restored(slot, os[0]);
-    let b = restored(slot, os[1]);
-    let c = restored(slot, os[2]);
-    let d = restored(slot, os[3]);
-    [a, b, c, d]
+    os.map(|o| restored(slot, o))
 }
 
 // A phase 2 prepare frees what the visit held.
@@ -114,8 +102,7 @@ pub fn told_objects(told: Told, slot: u8, os: [Object; 4]) -> [Object; 4]
     ensures { result ≡ told_objects told slot os }
 {
     match told {
-        Told::Refresh(_) => os,
-        Told::Terminate(_) => os,
+        Told::Refresh(_) | Told::Terminate(_) => os,
         Told::Prepare => freed_all(slot, os),
     }
 }

@@ -40,7 +40,7 @@ pub enum Kind {
     Prepare,
 }
 
-#[derive(Clone, Copy)]
+#[derive(Clone, Copy, PartialEq)]
 pub enum Phase {
     None,
     One,
@@ -57,7 +57,7 @@ pub struct Round {
     pub figures: [Figures; 8],
 }
 
-#[derive(Clone, Copy)]
+#[derive(Clone, Copy, PartialEq)]
 pub enum Status {
     Free,
     Active,
