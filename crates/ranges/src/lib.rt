@@ -34,10 +34,11 @@ fn object_in_range(o: Object) -> bool
     (o.value <= WIDTH_MOST) & (o.before <= WIDTH_MOST) & holder_in_range(o)
 }
 
+// All eight are looked at: with `all`, which stops at the first that is not, the test of whole tables takes three times as long.
 fn counts_in_range(sent: &[u16; 8]) -> bool
     ensures { result ≡ counts_in_range sent.now }
 {
-    sent.iter().all(|n| *n <= COUNT_MOST)
+    sent.iter().fold(true, |ok, n| ok & (*n <= COUNT_MOST))
 }
 
 fn figures_in_range(f: &Figures) -> bool
