@@ -2,17 +2,20 @@
 use Prim.Native.Nat.{ℕ, zero, suc, ◌+◌, ◌*◌, ◌/◌, ◌%◌, ◌^◌, ◌≤◌, ◌<◌, zero-le}
 use native.Mathlib.Omega.{arith}
 use mathlib.Core.Path.{◌≡◌, refl, ap, ◌∙◌}
-use mathlib.Core.Bool.{Bool, true, ◌&&◌}
+use mathlib.Core.Bool.{Bool, true}
 use mathlib.Core.List.{List, [], ◌∷◌}
 use lib.Count.{ones, ones_in}
 use lib.Dec.{eqb}
-use lib.ListN.{get_or}
+use lib.ListN.{length, get_or}
+use Rattle.std.proofs.lemmas.List.{get_or_past}
+use Rattle.std.specs.List.{list_all, range_with_len}
 use borrow.Author.Tests.{eqb-true}
 use Rattle.rules.specs.declared.tables.Round.{Round}
 use Rattle.rules.specs.Loops.{one_if, every_up_to, sum_up_to}
 use Rattle.rules.specs.LoopsLaws.{every_at, every_same}
+use Rattle.rules.specs.LoopsLists.{every_range}
 use Rattle.rules.specs.Parts.{sent_to, received_at, is_closed}
-use Rattle.parts.specs.Balances.{balance_of, balances_up_to, met_up_to}
+use Rattle.parts.specs.Balances.{balance_of, balances_up_to}
 
 -- a list of eight made by f has f d at d
 pub at_eight : (f : ℕ → ℕ) (d : ℕ) → d < 8 → get_or (f 0 ∷ f 1 ∷ f 2 ∷ f 3 ∷ f 4 ∷ f 5 ∷ f 6 ∷ f 7 ∷ []) d 0 ≡ f d
@@ -28,17 +31,20 @@ at_eight f (suc (suc (suc (suc (suc (suc (suc (suc d)))))))) h = absurd (omega a
 
 -- eight numbers that are at most m, read at any index
 pub most_of_eight :
-    {x₀ x₁ x₂ x₃ x₄ x₅ x₆ x₇ m : ℕ} → x₀ ≤ m → x₁ ≤ m → x₂ ≤ m → x₃ ≤ m → x₄ ≤ m → x₅ ≤ m → x₆ ≤ m → x₇ ≤ m
-    → (d : ℕ) → get_or (x₀ ∷ x₁ ∷ x₂ ∷ x₃ ∷ x₄ ∷ x₅ ∷ x₆ ∷ x₇ ∷ []) d 0 ≤ m
-most_of_eight a b c d e f g h zero = a
-most_of_eight a b c d e f g h (suc zero) = b
-most_of_eight a b c d e f g h (suc (suc zero)) = c
-most_of_eight a b c d e f g h (suc (suc (suc zero))) = d
-most_of_eight a b c d e f g h (suc (suc (suc (suc zero)))) = e
-most_of_eight a b c d e f g h (suc (suc (suc (suc (suc zero))))) = f
-most_of_eight a b c d e f g h (suc (suc (suc (suc (suc (suc zero)))))) = g
-most_of_eight a b c d e f g h (suc (suc (suc (suc (suc (suc (suc zero))))))) = h
-most_of_eight a b c d e f g h (suc (suc (suc (suc (suc (suc (suc (suc k)))))))) = zero-le
+    (xs : List ℕ) (m : ℕ) → length xs ≡ 8
+    → get_or xs 0 0 ≤ m → get_or xs 1 0 ≤ m → get_or xs 2 0 ≤ m → get_or xs 3 0 ≤ m
+    → get_or xs 4 0 ≤ m → get_or xs 5 0 ≤ m → get_or xs 6 0 ≤ m → get_or xs 7 0 ≤ m
+    → (d : ℕ) → get_or xs d 0 ≤ m
+most_of_eight xs m l x₀ x₁ x₂ x₃ x₄ x₅ x₆ x₇ zero = x₀
+most_of_eight xs m l x₀ x₁ x₂ x₃ x₄ x₅ x₆ x₇ (suc zero) = x₁
+most_of_eight xs m l x₀ x₁ x₂ x₃ x₄ x₅ x₆ x₇ (suc (suc zero)) = x₂
+most_of_eight xs m l x₀ x₁ x₂ x₃ x₄ x₅ x₆ x₇ (suc (suc (suc zero))) = x₃
+most_of_eight xs m l x₀ x₁ x₂ x₃ x₄ x₅ x₆ x₇ (suc (suc (suc (suc zero)))) = x₄
+most_of_eight xs m l x₀ x₁ x₂ x₃ x₄ x₅ x₆ x₇ (suc (suc (suc (suc (suc zero))))) = x₅
+most_of_eight xs m l x₀ x₁ x₂ x₃ x₄ x₅ x₆ x₇ (suc (suc (suc (suc (suc (suc zero)))))) = x₆
+most_of_eight xs m l x₀ x₁ x₂ x₃ x₄ x₅ x₆ x₇ (suc (suc (suc (suc (suc (suc (suc zero))))))) = x₇
+most_of_eight xs m l x₀ x₁ x₂ x₃ x₄ x₅ x₆ x₇ (suc (suc (suc (suc (suc (suc (suc (suc d)))))))) =
+    rw (get_or_past xs (suc (suc (suc (suc (suc (suc (suc (suc d)))))))) 0 (omega arith)) zero-le
 
 -- a bit of a byte stays in it
 pub bit_fits : (s : ℕ) → s < 8 → 1 * 2 ^ s % 256 ≡ 2 ^ s
@@ -65,15 +71,10 @@ balance_sum r (suc n) d h =
     ∙ ap (λ (x : ℕ). x + balance_of r n d) (balance_sum r n d h)
 
 -- the balances are met exactly if the round is closed
-met_every : (r : Round) (b : List ℕ) (n : ℕ) → met_up_to r b n ≡ every_up_to (λ d. eqb (get_or b d 0) (received_at r d)) n
-unfolding met_up_to every_up_to
-met_every r b zero = refl
-met_every r b (suc n) = ap (λ (x : Bool). x && eqb (get_or b n 0) (received_at r n)) (met_every r b n)
-
-pub met_closed : (r : Round) → met_up_to r (balances_up_to r 8) 8 ≡ is_closed r
+pub met_closed : (r : Round) → list_all (λ d. eqb (get_or (balances_up_to r 8) d 0) (received_at r d)) (range_with_len 0 8) ≡ is_closed r
 unfolding is_closed sent_to
 met_closed r =
-    met_every r (balances_up_to r 8) 8
+    every_range (λ d. eqb (get_or (balances_up_to r 8) d 0) (received_at r d)) 8
     ∙ every_same
     (λ d. eqb (get_or (balances_up_to r 8) d 0) (received_at r d))
     (λ d. eqb (sum_up_to (λ s. balance_of r s d) 8) (received_at r d))

@@ -1,7 +1,7 @@
 -- The closure test by an array of eight balances: the calls sent to each site by the answers so far. Assumes nothing.
-use Rattle.std.specs.Prelude.{ℕ, zero, suc, ◌+◌, Bool, true, ◌&&◌, List, [], ◌∷◌, eqb, get_or, replicate}
+use Rattle.std.specs.Prelude.{ℕ, zero, suc, ◌+◌, List, [], ◌∷◌, get_or, replicate}
 use Rattle.rules.specs.declared.tables.Round.{Round}
-use Rattle.rules.specs.Parts.{figures_at, if_answered, received_at}
+use Rattle.rules.specs.Parts.{figures_at, if_answered}
 
 -- what the answer of s says that it sent to d
 abbrev pub balance_of : Round → ℕ → ℕ → ℕ
@@ -25,8 +25,3 @@ balances_next r s b =
 unfoldable pub balances_up_to : Round → ℕ → List ℕ
 balances_up_to r zero = replicate 8 0
 balances_up_to r (suc n) = balances_next r n (balances_up_to r n)
-
--- whether each of the first n sites received what was sent to it
-unfoldable pub met_up_to : Round → List ℕ → ℕ → Bool
-met_up_to r b zero = true
-met_up_to r b (suc n) = met_up_to r b n && eqb (get_or b n 0) (received_at r n)

@@ -8,35 +8,14 @@ use rules::tables::{Body, Message, Visit};
 pub fn is_empty(b: Body) -> bool
     ensures { result ≡ is_empty b }
 {
-    match b {
-        Body::Empty => true,
-        Body::Call(_) => false,
-        Body::PhaseOne {
-            number: _,
-            asked: _,
-        } => false,
-        Body::PhaseTwo { number: _, told: _ } => false,
-        Body::Answer {
-            number: _,
-            received: _,
-            quiesce: _,
-        } => false,
-        Body::Reply { value: _ } => false,
-    }
+    matches!(b, Body::Empty)
 }
 
 // An emptied slot.
 pub fn no_message() -> Message
     ensures { result ≡ no_message }
 {
-    Message {
-        body: Body::Empty,
-        source: 0,
-        destination: 0,
-        handle: 0,
-        stamp: 0,
-        sent: [0u16; 8],
-    }
+    plain_message(Body::Empty, 0, 0, 0, 0)
 }
 
 // A message that carries no counts.
@@ -44,12 +23,12 @@ pub fn plain_message(body: Body, source: u8, destination: u8, handle: u16, stamp
     ensures { result ≡ plain_message body source destination handle stamp }
 {
     Message {
-        body: body,
-        source: source,
-        destination: destination,
-        handle: handle,
-        stamp: stamp,
-        sent: [0u16; 8],
+        body,
+        source,
+        destination,
+        handle,
+        stamp,
+        sent: [0; 8],
     }
 }
 
@@ -57,6 +36,7 @@ pub fn plain_message(body: Body, source: u8, destination: u8, handle: u16, stamp
 pub fn answer_message(v: Visit, source: u8, home: u8, handle: u16, stamp: u64) -> Message
     ensures { result ≡ answer_message v source home handle stamp }
 {
+    // The borrow checker covers no array field that goes straight into a literal.
     let sent = v.sent;
     Message {
         body: Body::Answer {
@@ -64,10 +44,10 @@ pub fn answer_message(v: Visit, source: u8, home: u8, handle: u16, stamp: u64) -
             received: v.received,
             quiesce: v.quiesce,
         },
-        source: source,
+        source,
         destination: home,
-        handle: handle,
-        stamp: stamp,
-        sent: sent,
+        handle,
+        stamp,
+        sent,
     }
 }

@@ -1,41 +1,26 @@
 // Objects: who holds one, taking, freeing, restoring.
 ghost use Rattle.std.specs.Prelude.{◌≡◌};
-ghost use Rattle.rules.specs.Parts.{is_slot, is_held_by_other, unheld, taken, operated, freed, restored, each_of, told_objects};
+ghost use Rattle.rules.specs.Parts.{is_held_by_other, unheld, taken, operated, freed, restored, each_of, told_objects};
 
 use rules::tables::{Call, Object, Told};
-
-// The holder alone is handed over: a whole object would be copied in every turn of a sweep.
-fn is_slot(slot: u8, holder: Option<u8>) -> bool
-    ensures { result ≡ is_slot slot holder }
-{
-    match holder {
-        None => false,
-        Some(k) => k == slot,
-    }
-}
 
 pub fn is_held_by_other(slot: u8, o: Object) -> bool
     ensures { result ≡ is_held_by_other slot o }
 {
-    let holder = o.holder;
-    match holder {
-        None => false,
-        Some(k) => !(k == slot),
-    }
+    o.holder.is_some_and(|k| k != slot)
 }
 
 // An unheld object is taken; a held one keeps the value before its first taking.
 pub fn taken(slot: u8, o: Object) -> Object
     ensures { result ≡ taken slot o }
 {
-    let holder = o.holder;
-    match holder {
-        None => Object {
-            value: o.value,
-            holder: Some(slot),
-            before: o.value,
-        },
-        Some(_) => o,
+    if o.holder.is_some() {
+        return o;
+    }
+    Object {
+        value: o.value,
+        holder: Some(slot),
+        before: o.value,
     }
 }
 
@@ -44,11 +29,9 @@ pub fn operated(call: Call, o: Object) -> Object
     ensures { result ≡ operated call o }
 {
     if call.write {
-        let holder = o.holder;
         Object {
             value: call.value,
-            holder: holder,
-            before: o.before,
+            ..o
         }
     } else {
         o
@@ -59,7 +42,7 @@ pub fn unheld(value: u32) -> Object
     ensures { result ≡ unheld value }
 {
     Object {
-        value: value,
+        value,
         holder: None,
         before: 0,
     }
@@ -69,8 +52,7 @@ pub fn unheld(value: u32) -> Object
 fn freed(slot: u8, o: Object) -> Object
     ensures { result ≡ freed slot o }
 {
-    let holder = o.holder;
-    if is_slot(slot, holder) {
+    if o.holder == Some(slot) {
         unheld(o.value)
     } else {
         o
@@ -81,8 +63,7 @@ fn freed(slot: u8, o: Object) -> Object
 fn restored(slot: u8, o: Object) -> Object
     ensures { result ≡ restored slot o }
 {
-    let holder = o.holder;
-    if is_slot(slot, holder) {
+    if o.holder == Some(slot) {
         unheld(o.before)
     } else {
         o
@@ -92,21 +73,13 @@ fn restored(slot: u8, o: Object) -> Object
 fn freed_all(slot: u8, os: [Object; 4]) -> [Object; 4]
     ensures { result ≡ each_of (freed slot) os }
 {
-    let a = freed(slot, os[0]);
-    let b = freed(slot, os[1]);
-    let c = freed(slot, os[2]);
-    let d = freed(slot, os[3]);
-    [a, b, c, d]
+    os.map(|o| freed(slot, o))
 }
 
 pub fn restored_all(slot: u8, os: [Object; 4]) -> [Object; 4]
     ensures { result ≡ each_of (restored slot) os }
 {
-    let a = restored(slot, os[0]);
-    let b = restored(slot, os[1]);
-    let c = restored(slot, os[2]);
-    let d = restored(slot, os[3]);
-    [a, b, c, d]
+    os.map(|o| restored(slot, o))
 }
 
 // A phase 2 prepare frees what the visit held.
@@ -114,8 +87,7 @@ pub fn told_objects(told: Told, slot: u8, os: [Object; 4]) -> [Object; 4]
     ensures { result ≡ told_objects told slot os }
 {
     match told {
-        Told::Refresh(_) => os,
-        Told::Terminate(_) => os,
+        Told::Refresh(_) | Told::Terminate(_) => os,
         Told::Prepare => freed_all(slot, os),
     }
 }

@@ -1,6 +1,6 @@
 // What was seen, as a whole: with another site in it, and what its message says of clock, slot and home.
 // Each function equals the definition of the same name in rules' specs/Seen.antt or specs/Calls.antt.
-ghost use Rattle.std.specs.Prelude.{max, ◌≡◌};
+ghost use Rattle.std.specs.Prelude.{◌≡◌};
 ghost use Rattle.rules.specs.Sane.{Sane};
 ghost use Rattle.rules.specs.Calls.{mail_clock, mail_slot, at_home};
 ghost use Rattle.rules.specs.Seen.{at_clock, left_site};
@@ -26,36 +26,24 @@ pub fn left_site(seen: Seen, site: Site) -> Seen
     Seen { site, ..seen }
 }
 
-// The later of two clocks.
-fn later(a: u64, b: u64) -> u64
-    ensures { result ≡ max a b }
-{
-    if a < b { b } else { a }
-}
-
 // The clock that a delivery moves to: past the site's own and past the stamp.
 pub fn mail_clock(seen: Seen) -> u64
     requires { Sane seen }
     ensures { result ≡ mail_clock seen }
 {
-    let s = seen.site;
-    let m = seen.message;
-    later(s.clock, m.stamp) + 1
+    seen.site.clock.max(seen.message.stamp) + 1
 }
 
 // The passage slot that the message is for.
 pub fn mail_slot(seen: Seen) -> u8
     ensures { result ≡ mail_slot seen }
 {
-    let m = seen.message;
-    (m.handle % 16) as u8
+    (seen.message.handle % 16) as u8
 }
 
 // Whether the message is delivered at its passage's own home.
 pub fn at_home(seen: Seen) -> bool
     ensures { result ≡ at_home seen }
 {
-    let m = seen.message;
-    let p = seen.passage;
-    m.destination == p.home
+    seen.message.destination == seen.passage.home
 }

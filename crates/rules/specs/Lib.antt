@@ -4,6 +4,7 @@ pub mod Types
 pub mod Limits
 pub mod Loops
 pub mod LoopsLaws
+pub mod LoopsLists
 pub mod Tables
 pub mod Ranges
 pub mod Answers

@@ -1,5 +1,5 @@
 -- After eight answers the balances are met exactly if the round is closed.
-use Rattle.std.proofs.Common.{◌≡◌, arith, refl, add-one}
+use Rattle.std.proofs.Common.{◌≡◌, replicate, arith, refl, add-one}
 use Prim.Native.Nat.{zero-le}
 use Rattle.parts.specs.Balances.{balances_up_to}
 use Rattle.parts.proofs.Eight.{most_of_eight, met_closed}
@@ -7,14 +7,11 @@ use Rattle.parts.proofs.round.is_closed.Goals as goal
 
 pub loop-s-init : goal.loop-s-init
 unfolding balances_up_to
-loop-s-init c = (refl, most_of_eight zero-le zero-le zero-le zero-le zero-le zero-le zero-le zero-le, omega arith)
-
-pub balances_next-next-requires : goal.balances_next-next-requires
-balances_next-next-requires c = (c.loop-s-test.true, c.loop-s.invariant.1)
+loop-s-init c = (refl, most_of_eight (replicate 8 0) 0 refl zero-le zero-le zero-le zero-le zero-le zero-le zero-le zero-le)
 
 pub loop-s-preserved : goal.loop-s-preserved
 unfolding balances_up_to
-loop-s-preserved c = (rw (add-one, c.balances_next-next.ensures.0, ← c.loop-s.invariant.0), c.balances_next-next.ensures.1, omega arith)
+loop-s-preserved c = (rw (add-one, c.balances_next-balances.ensures.next, ← c.loop-s.invariant.0), c.balances_next-balances.ensures.most)
 
 pub returns : goal.returns
 returns c =

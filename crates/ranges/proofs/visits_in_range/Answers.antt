@@ -1,6 +1,0 @@
--- The loop ends at the last index.
-use Rattle.std.proofs.Common.{◌≡◌, arith}
-use Rattle.ranges.proofs.visits_in_range.Goals as goal
-
-pub returns : goal.returns
-returns c = let e : c.loop-i.i ≡ 128 = omega arith in rw e at c.loop-i.invariant.0
