@@ -1,10 +1,26 @@
 -- The words that lead on from a place: how long they are, and where they are what is expected. Assumes nothing.
-use Rattle.std.specs.Prelude.{ℕ, ◌+◌, ◌≤◌, ◌≡◌, true, false, [], ◌++◌, eqb, length}
-use Rattle.std.proofs.Common.{arith, length-append}
-use Rattle.words.specs.Grammar.{edge_of, slot_at}
+use Rattle.std.specs.Prelude.{ℕ, zero, suc, ◌+◌, ◌≤◌, ◌≡◌, refl, Bool, true, false, List, [], ◌∷◌, ◌++◌, eqb, length, get_or, take, count_by}
+use Rattle.std.proofs.Common.{arith, sym, ap, ◌∙◌, zero-add, length-append}
+use Rattle.std.proofs.lemmas.List.Sums.{sum_by-append}
+use Rattle.std.proofs.Math.Seq.{take-suc}
+use Rattle.rules.specs.Loops.{one_if, sum_up_to}
+use Rattle.words.specs.declared.rows.Edge.{Edge}
+use Rattle.words.specs.Grammar.{edge, edges, edge_of, slot_at}
 use Rattle.words.specs.Say.{text_bytes, word_text}
 use Rattle.words.specs.Faults.{choices_up_to, choice_count, separator, choice_text, choices_text, nothing_text, expected_at}
 use Rattle.words.proofs.TextLaws.{cond_length, letters_length}
+
+-- so many of the first rows of a table pass the test as of the indices below n
+counted : {A : Type 0} (p : A → Bool) (xs : List A) (d : A) (n : ℕ) → n ≤ length xs → sum_up_to (λ i. one_if (p (get_or xs i d))) n ≡ count_by p (take n xs)
+unfolding sum_up_to
+counted p xs d zero h = refl
+counted p xs d (suc n) h =
+    let q = sum_by-append (λ x. one_if (p x)) (take n xs) (get_or xs n d ∷ []) in
+    rw (take-suc xs n d h, counted p xs d n (omega arith)) (sym (q ∙ ap (λ (m : ℕ). count_by p (take n xs) + m) (zero-add (one_if (p (get_or xs n d))))))
+
+pub choices_counted : (node n : ℕ) → n ≤ 31 → count_by (λ (e : Edge). eqb e.from node) (take n edges) ≡ choices_up_to node n
+unfolding choices_up_to
+choices_counted node n h = sym (counted (λ (e : Edge). eqb e.from node) edges (edge 0 0 0 0 0) n h)
 
 pub separator_length : (before count : ℕ) → length (separator before count) ≤ 4
 separator_length before count =

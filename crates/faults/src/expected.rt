@@ -1,37 +1,27 @@
 // What was expected, read off the grammar's two tables.
-ghost use Rattle.std.specs.Prelude.{◌+◌, ◌≤◌, ◌<◌, ◌≡◌, length};
-ghost use Rattle.rules.specs.Loops.{one_if};
+ghost use Rattle.std.specs.Prelude.{◌+◌, ◌≤◌, ◌<◌, ◌≡◌, count_by, eqb, length};
+ghost use Rattle.words.specs.declared.rows.Edge.{Edge};
 ghost use Rattle.buffer.specs.Text.{Puts};
 ghost use Rattle.words.specs.Faults.{choices_up_to, choice_count, separator, choice_text, choices_text, nothing_text, expected_at};
 
 use buffer::{put_letters, put_text};
-use grammar::{edge_of, may_end, slot_at};
-use words::rows::{EDGE_COUNT, RAW_NODE};
+use grammar::{EDGES, edge_of, may_end, slot_at};
+use words::rows::{EDGE_COUNT, Edge, RAW_NODE};
 
-// One more, if it is one.
-fn counted(count: usize, one: bool) -> usize
-    requires { count < 31 }
-    ensures { (result ≡ count + one_if one) × (result ≤ count + 1) }
+// How many of these rows lead on from this place.
+fn leading(rows: &[Edge], node: u8) -> usize
+    ensures { (result ≡ count_by (λ (e : Edge). eqb e.from node) rows.now) × (result ≤ length rows.now) }
 {
-    if one {
-        return count + 1;
-    }
-    count
+    rows.iter().filter(|e| e.from == node).count()
 }
 
 // How many of the first n words lead on from this place.
+#[tactic(auto, using(crate::proofs::Choices::choices_counted))]
 fn choices_up_to(node: u8, n: usize) -> usize
     requires { n ≤ 31 }
     ensures { (result ≡ choices_up_to node n) × (result ≤ n) }
 {
-    let mut count: usize = 0;
-    let mut k: usize = 0;
-    while k < n {
-        let e = edge_of(k);
-        count = counted(count, e.from == node);
-        k += 1;
-    }
-    count
+    leading(&EDGES[..n], node)
 }
 
 // The words that lead on, and nothing where the line may end.
@@ -39,10 +29,7 @@ fn choice_count(node: u8) -> usize
     ensures { result ≡ choice_count node }
 {
     let words = choices_up_to(node, EDGE_COUNT);
-    if may_end(node) {
-        return words + 1;
-    }
-    words
+    if may_end(node) { words + 1 } else { words }
 }
 
 // What stands before a choice that has so many before it.
@@ -79,10 +66,8 @@ fn put_choices(out: &mut [u8], at: usize, node: u8) -> usize
     ensures { Puts out.old at (choices_text node 31) out.new result × (result ≤ at + 403) }
 {
     let mut next = at;
-    let mut k: usize = 0;
-    while k < EDGE_COUNT {
+    for k in 0..EDGE_COUNT {
         next = put_choice(out, next, node, k);
-        k += 1;
     }
     next
 }

@@ -5,19 +5,15 @@ ghost use Rattle.words.specs.declared.scan.Fault.{Fault};
 ghost use Rattle.words.specs.Faults.{line_behind, shown_byte, shown_up_to, quoted, stood_text, expected_text, fault_text, fault_line};
 
 use crate::expected::put_expected_at;
-use crate::found::{line_behind, no_word, spot_in};
+use crate::found::{line_behind, no_word, spot_in, word_of};
 use buffer::{put_byte, put_digits, put_text};
-use scanning::bytes::{is_digit, is_letter};
 use words::scan::Fault;
 
 // A byte that is no letter and no digit is shown as `?`.
 fn shown_byte(b: u8) -> u8
     ensures { result ≡ shown_byte b }
 {
-    if is_letter(b) | ((65 <= b) & (b <= 90)) | is_digit(b) {
-        return b;
-    }
-    b'?'
+    if b.is_ascii_alphanumeric() { b } else { b'?' }
 }
 
 // At most twenty bytes of the word or number that stands there.
@@ -25,16 +21,12 @@ fn put_shown(out: &mut [u8], at: usize, line: &[u8], from: usize) -> usize
     requires { (at + 20 ≤ length out.old) × (from ≤ length line.now) }
     ensures { Puts out.old at (shown_up_to 20 (drop from line.now)) out.new result × (result ≤ at + 20) }
 {
-    let mut k: usize = 0;
-    while k < 20 {
-        if no_word(line, from + k) {
-            return at + k;
-        }
-        let b = shown_byte(line[from + k]);
-        out[at + k] = b;
-        k += 1;
+    let rest = &line[from..];
+    let mut next = at;
+    for b in word_of(&rest[..rest.len().min(20)]) {
+        next = put_byte(out, next, shown_byte(*b));
     }
-    at + k
+    next
 }
 
 fn put_quoted(out: &mut [u8], at: usize, line: &[u8], from: usize) -> usize

@@ -1,47 +1,55 @@
--- The columns of the two tables make their rows. Assumes nothing.
-use Rattle.std.specs.Prelude.{ℕ, zero, suc, ◌≤◌, ◌<◌, ◌≡◌, List, [], ◌∷◌, map, length, get_or}
-use Rattle.std.proofs.Common.{refl, arith}
-use Rattle.std.proofs.Math.ListN.{get_or-map}
+-- The first row of a table at which a test holds, found from the back and from the front; where a field may lie. Assumes nothing.
+use Rattle.std.specs.Prelude.{ℕ, zero, suc, ◌+◌, ◌≤◌, ◌≡◌, Bool, true, false, cond, not, ◌&&◌, List, [], ◌∷◌, eqb, ltb, length, get_or, Some, None}
+use Rattle.std.specs.List.{position, position_or_len}
+use Rattle.std.proofs.Common.{refl, arith, ⊎_elim, inl, inr, ◌⊎◌, ltb-true, ltb-false}
+use Rattle.std.proofs.Math.Dec.{eqb-zero-suc, eqb-suc-suc}
+use Rattle.std.proofs.Math.ListN.{get_or-eq_default}
+use Rattle.rules.specs.Loops.{first_next, first_up_to}
+use Rattle.rules.specs.LoopsLaws.{either}
 use Rattle.rules.proofs.RecordLaws.{each_row_at}
 use Rattle.words.specs.declared.rows.Edge.{Edge}
-use Rattle.words.specs.declared.rows.Slot.{Slot}
-use Rattle.words.specs.Grammar.{edge, edges, edge_of, takes, none, slots, slot_at}
+use Rattle.words.specs.Grammar.{edges, edge, edge_at, slots, slot_at, none}
 
-pub edge_made :
-    (k : ℕ)
-    → edge (get_or (map (λ e. e.from) edges) k 0) (get_or (map (λ e. e.word) edges) k 0) (get_or (map (λ e. e.to) edges) k 0) (get_or (map (λ e. e.field) edges) k 0) (get_or (map (λ e. e.value) edges) k 0)
-    ≡ edge_of k
-edge_made k =
-    rw (
-      get_or-map (λ (e : Edge). e.from) edges k (edge 0 0 0 0 0),
-      get_or-map (λ (e : Edge). e.word) edges k (edge 0 0 0 0 0),
-      get_or-map (λ (e : Edge). e.to) edges k (edge 0 0 0 0 0),
-      get_or-map (λ (e : Edge). e.field) edges k (edge 0 0 0 0 0),
-      get_or-map (λ (e : Edge). e.value) edges k (edge 0 0 0 0 0),
-    )
+-- at the last index
+last : (b : Bool) (n : ℕ) → cond b (suc n) (suc n + 1) ≡ suc (cond b n (n + 1))
+last true n = refl
+last false n = omega arith
 
-pub slot_made :
-    (k : ℕ)
-    → takes (get_or (map (λ e. e.field) slots) k 0) (get_or (map (λ e. e.width) slots) k 0) (get_or (map (λ e. e.to) slots) k 0)
-    ≡ slot_at k
-slot_made k =
-    rw (
-      get_or-map (λ (e : Slot). e.field) slots k none,
-      get_or-map (λ (e : Slot). e.width) slots k none,
-      get_or-map (λ (e : Slot). e.to) slots k none,
-    )
+-- from the first index on
+first_front : (p : ℕ → Bool) (n : ℕ) → first_up_to p (suc n) ≡ cond (p 0) 0 (suc (first_up_to (λ i. p (suc i)) n))
+unfolding first_up_to
+first_front p zero = refl
+first_front p (suc n) = rw (first_front p n) (shifted (either (p 0)) (either (eqb (first_up_to (λ i. p (suc i)) n) n)))
+  where
+    shifted :
+        (p 0 ≡ true) ⊎ (p 0 ≡ false)
+        → (eqb (first_up_to (λ i. p (suc i)) n) n ≡ true) ⊎ (eqb (first_up_to (λ i. p (suc i)) n) n ≡ false)
+        → first_next (cond (p 0) 0 (suc (first_up_to (λ i. p (suc i)) n))) (suc n) (p (suc n))
+        ≡ cond (p 0) 0 (suc (first_next (first_up_to (λ i. p (suc i)) n) n (p (suc n))))
+    shifted (inl e) w = rw (e, eqb-zero-suc n)
+    shifted (inr e) (inl w) = rw (e, eqb-suc-suc (first_up_to (λ i. p (suc i)) n) n, w) (last (p (suc n)) n)
+    shifted (inr e) (inr w) = rw (e, eqb-suc-suc (first_up_to (λ i. p (suc i)) n) n, w)
+
+pub first_position : {A : Type 0} (p : A → Bool) (xs : List A) (d : A) → first_up_to (λ i. p (get_or xs i d)) (length xs) ≡ position_or_len p xs
+unfolding first_up_to
+first_position p [] d = refl
+first_position p (x ∷ xs) d = rw (first_front (λ i. p (get_or (x ∷ xs) i d)) (length xs), first_position p xs d) (turn (p x))
+  where
+    turn : (b : Bool) → cond b 0 (suc (position_or_len p xs)) ≡ cond (not b) (1 + position_or_len p xs) 0
+    turn true = refl
+    turn false = omega arith
+
+-- the row of a word is the first that leads from its place by it
+pub edge_found :
+    (node word : ℕ) → position (λ e. eqb e.from node && eqb e.word word) edges ≡ cond (ltb (edge_at node word) 31) (Some (edge_at node word)) None
+unfolding edge_at
+edge_found node word =
+    rw (first_position (λ (e : Edge). eqb e.from node && eqb e.word word) edges (edge 0 0 0 0 0))
 
 -- four bytes from any field on are within the record
-pub slot_within : (k : ℕ) → k < 31 → get_or (map (λ e. e.field) slots) k 0 ≤ 12
-slot_within k h =
-    rw (get_or-map (λ (e : Slot). e.field) slots k none) (each_row_at (λ i. (slot_at i).field ≤ 12) 31 (omega arith) k h)
-
--- past its end a list has what is asked for there
-past_end : {A : Type 0} (l : List A) (k : ℕ) (d : A) → length l ≤ k → d ≡ get_or l k d
-past_end [] k d h = refl
-past_end (x ∷ l) zero d h = absurd (omega arith)
-past_end (x ∷ l) (suc k) d h = past_end l k d (omega arith)
-
--- no number stands past the last place
-pub slot_past : (k : ℕ) → 31 ≤ k → none ≡ slot_at k
-slot_past k h = past_end slots k none h
+pub slot_within : (k : ℕ) → (slot_at k).field ≤ 12
+slot_within k =
+    ⊎_elim
+    (λ (e : ltb k 31 ≡ true). each_row_at (λ i. (slot_at i).field ≤ 12) 31 (omega arith) k (ltb-true k 31 e))
+    (λ (e : ltb k 31 ≡ false). rw (get_or-eq_default slots none (ltb-false k 31 e)) (omega arith))
+    (either (ltb k 31))

@@ -2,79 +2,112 @@
 // Each function equals its definition in words' specs/Grammar.antt.
 #![tactic(auto)]
 
-ghost use Rattle.std.specs.Prelude.{◌+◌, ◌≤◌, ◌<◌, ◌≡◌};
-ghost use Rattle.rules.specs.Loops.{first_next};
-ghost use Rattle.words.specs.Grammar.{edge_of, edge_at, leads_from, slot_at, may_end};
+ghost use Rattle.std.specs.Prelude.{◌≤◌, ◌<◌, ◌≡◌, ◌&&◌, cond, ltb, eqb};
+ghost use Rattle.std.specs.List.{position};
+ghost use Rattle.words.specs.declared.rows.Edge.{Edge};
+ghost use Rattle.words.specs.Grammar.{edge_of, edge_at, slot_at, may_end};
 
 use words::rows::{EDGE_COUNT, Edge, Slot};
+use words::vocabulary::{
+    ABORT, ASK, AT, BEGIN, BY, CLOSE, CRASH, DELIVER, DROP, HOME, INVOKE, OBJECT, OPERATION,
+    PREPARE, QUIESCE, RAW, READ, RECOVER, REFRESH, RELEASE, RETIRE, SLOT, SWEEP, TELL, TERMINATE,
+    TICK, VALUE, WRITE,
+};
 
-// Where each word leads, a row to a word: tick, begin, invoke, refresh, terminate, prepare, ask, close, tell, abort, deliver, drop, sweep, crash, recover, retire, raw, by, home, slot, quiesce, release, at, at, read, write, operation, object, value, object, value.
-const FROM: [u8; 31] = [
-    0, 0, 0, 0, 0, 0, 0, 0, 0, 0, 0, 0, 0, 0, 0, 0, 0, 6, 8, 10, 12, 14, 18, 20, 22, 22, 22, 23,
-    25, 27, 29,
+// At place `from` the word leads to place `to`, and puts `value` into byte `field`; a field of 16 is none.
+macro_rules! edge {
+    ($from:literal, $word:expr, $to:literal, $field:literal, $value:literal) => {
+        Edge { from: $from, word: $word, to: $to, field: $field, value: $value }
+    };
+}
+
+// A number goes into `width` bytes from byte `field` on, and leads to place `to`.
+macro_rules! slot {
+    ($field:literal, $width:literal, $to:literal) => {
+        Slot { field: $field, width: $width, to: $to }
+    };
+}
+
+// Where each word leads, a row to a word.
+pub const EDGES: [Edge; EDGE_COUNT] = [
+    edge!(0, TICK, 5, 0, 1),
+    edge!(0, BEGIN, 8, 0, 2),
+    edge!(0, INVOKE, 19, 0, 3),
+    edge!(0, REFRESH, 16, 0, 4),
+    edge!(0, TERMINATE, 4, 0, 5),
+    edge!(0, PREPARE, 4, 0, 6),
+    edge!(0, ASK, 17, 0, 7),
+    edge!(0, CLOSE, 4, 0, 8),
+    edge!(0, TELL, 17, 0, 9),
+    edge!(0, ABORT, 4, 0, 10),
+    edge!(0, DELIVER, 3, 0, 11),
+    edge!(0, DROP, 3, 0, 12),
+    edge!(0, SWEEP, 2, 0, 13),
+    edge!(0, CRASH, 2, 0, 14),
+    edge!(0, RECOVER, 2, 0, 15),
+    edge!(0, RETIRE, 4, 0, 16),
+    edge!(0, RAW, 30, 16, 0),
+    edge!(6, BY, 7, 16, 0),
+    edge!(8, HOME, 9, 16, 0),
+    edge!(10, SLOT, 11, 16, 0),
+    edge!(12, QUIESCE, 13, 16, 0),
+    edge!(14, RELEASE, 15, 16, 0),
+    edge!(18, AT, 2, 16, 0),
+    edge!(20, AT, 21, 16, 0),
+    edge!(22, READ, 23, 2, 0),
+    edge!(22, WRITE, 27, 2, 1),
+    edge!(22, OPERATION, 26, 16, 0),
+    edge!(23, OBJECT, 24, 16, 0),
+    edge!(25, VALUE, 7, 16, 0),
+    edge!(27, OBJECT, 28, 16, 0),
+    edge!(29, VALUE, 7, 16, 0),
 ];
 
-const WORD: [u64; 31] = [
-    664683,
-    2268462,
-    317406565,
-    19502012008,
-    22181804705413,
-    17789617733,
-    1643,
-    3554917,
-    660876,
-    1130068,
-    4475639986,
-    150000,
-    20681904,
-    3737192,
-    19498784946,
-    609887813,
-    18487,
-    89,
-    277925,
-    635380,
-    18967874661,
-    19507873381,
-    52,
-    52,
-    594980,
-    24716933,
-    17048404633070,
-    505746548,
-    23114405,
-    505746548,
-    23114405,
-];
+// A place at which no number stands.
+const NO_NUMBER: Slot = slot!(0, 0, 0);
 
-const TO: [u8; 31] = [
-    5, 8, 19, 16, 4, 4, 17, 4, 17, 4, 3, 3, 2, 2, 2, 4, 30, 7, 9, 11, 13, 15, 2, 21, 23, 27, 26,
-    24, 7, 28, 7,
-];
-
-const FIELD: [u8; 31] = [
-    0, 0, 0, 0, 0, 0, 0, 0, 0, 0, 0, 0, 0, 0, 0, 0, 16, 16, 16, 16, 16, 16, 16, 16, 2, 2, 16, 16,
-    16, 16, 16,
-];
-
-const VALUE: [u8; 31] = [
-    1, 2, 3, 4, 5, 6, 7, 8, 9, 10, 11, 12, 13, 14, 15, 16, 0, 0, 0, 0, 0, 0, 0, 0, 0, 1, 0, 0, 0,
-    0, 0,
-];
-
-// Which bytes of the record a number fills, a row to a place, and where it leads.
-const SLOT_FIELD: [u8; 31] = [
-    0, 0, 1, 3, 4, 1, 0, 8, 0, 1, 0, 2, 0, 8, 0, 12, 4, 4, 0, 4, 0, 1, 0, 0, 3, 0, 2, 0, 3, 0, 0,
-];
-
-const SLOT_WIDTH: [u8; 31] = [
-    0, 0, 1, 1, 2, 1, 0, 4, 0, 1, 0, 1, 0, 4, 0, 4, 2, 2, 0, 2, 0, 1, 0, 0, 1, 0, 1, 0, 1, 0, 0,
-];
-
-const SLOT_TO: [u8; 31] = [
-    0, 0, 1, 1, 1, 6, 0, 1, 0, 10, 0, 12, 0, 14, 0, 1, 12, 18, 0, 20, 0, 22, 0, 0, 25, 0, 27, 0,
-    29, 0, 0,
+// What a number does, a row to a place.
+const SLOTS: [Slot; 31] = [
+    NO_NUMBER,
+    NO_NUMBER,
+    // 2 a, 3 c, 4 h, and the line may end
+    slot!(1, 1, 1),
+    slot!(3, 1, 1),
+    slot!(4, 2, 1),
+    // 5 tick: a, by, u
+    slot!(1, 1, 6),
+    NO_NUMBER,
+    slot!(8, 4, 1),
+    // 8 begin: home, a, slot, b, quiesce, u, release, v
+    NO_NUMBER,
+    slot!(1, 1, 10),
+    NO_NUMBER,
+    slot!(2, 1, 12),
+    NO_NUMBER,
+    slot!(8, 4, 14),
+    NO_NUMBER,
+    slot!(12, 4, 1),
+    // 16 refresh: h, and on as begin does
+    slot!(4, 2, 12),
+    // 17 ask, tell: h, at, a
+    slot!(4, 2, 18),
+    NO_NUMBER,
+    // 19 invoke: h, at, a, and then read, write or operation
+    slot!(4, 2, 20),
+    NO_NUMBER,
+    slot!(1, 1, 22),
+    NO_NUMBER,
+    // 23 read: object, c, and the line may end, or value, u
+    NO_NUMBER,
+    slot!(3, 1, 25),
+    NO_NUMBER,
+    // 26 operation: b; 27 write: object, c, value, u
+    slot!(2, 1, 27),
+    NO_NUMBER,
+    slot!(3, 1, 29),
+    NO_NUMBER,
+    // 30 raw
+    NO_NUMBER,
 ];
 
 // Row k of the words.
@@ -82,72 +115,34 @@ pub fn edge_of(k: usize) -> Edge
     requires { k < 31 }
     ensures { result ≡ edge_of k }
 {
-    Edge {
-        from: FROM[k],
-        word: WORD[k],
-        to: TO[k],
-        field: FIELD[k],
-        value: VALUE[k],
-    }
+    EDGES[k]
+}
+
+// The first of these rows by which the word leads from this place.
+fn row_of(rows: &[Edge], node: u8, word: u64) -> Option<usize>
+    ensures { result ≡ position (λ (e : Edge). eqb e.from node && eqb e.word word) rows.now }
+{
+    rows.iter().position(|e| e.from == node && e.word == word)
+}
+
+// The row of this word at this place, if it has one.
+#[tactic(auto, using(crate::proofs::Rows::edge_found))]
+pub fn edge_at(node: u8, word: u64) -> Option<usize>
+    ensures { result ≡ cond (ltb (edge_at node word) 31) (Some (edge_at node word)) None }
+{
+    row_of(&EDGES, node, word)
 }
 
 // What a number does at this place.
 pub fn slot_at(node: u8) -> Slot
     ensures { (result ≡ slot_at node) × (result.field ≤ 12) }
 {
-    if node < 31 {
-        let k = node as usize;
-        return Slot {
-            field: SLOT_FIELD[k],
-            width: SLOT_WIDTH[k],
-            to: SLOT_TO[k],
-        };
-    }
-    Slot {
-        field: 0,
-        width: 0,
-        to: 0,
-    }
-}
-
-fn leads_from(node: u8, word: u64, k: usize) -> bool
-    requires { k < 31 }
-    ensures { result ≡ leads_from node word k }
-{
-    let e = edge_of(k);
-    (e.from == node) & (e.word == word)
-}
-
-// One turn of the search: the row found so far, or the next.
-fn found_next(found: usize, k: usize, node: u8, word: u64) -> usize
-    requires { (k < 31) × (found ≤ k) }
-    ensures { (result ≡ first_next found k (leads_from node word k)) × (result ≤ k + 1) }
-{
-    if found != k {
-        return found;
-    }
-    if leads_from(node, word, k) {
-        return k;
-    }
-    k + 1
-}
-
-// The row of this word at this place; 31 if there is none.
-pub fn edge_at(node: u8, word: u64) -> usize
-    ensures { (result ≡ edge_at node word) × (result ≤ 31) }
-{
-    let mut found: usize = 0;
-    let mut k: usize = 0;
-    while k < EDGE_COUNT {
-        found = found_next(found, k, node, word);
-        k += 1;
-    }
-    found
+    SLOTS.get(node as usize).copied().unwrap_or(NO_NUMBER)
 }
 
 // Where a line may end.
 pub fn may_end(node: u8) -> bool
     ensures { result ≡ may_end node }
 {
-    (node == 0) | (node == 1) | (node == 25)
+    matches!(node, 0 | 1 | 25)
 }

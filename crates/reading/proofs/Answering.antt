@@ -1,36 +1,55 @@
 -- What passwrite answers by how reading stopped, and that a text of one or two bytes has no mark. Assumes nothing.
-use Rattle.std.specs.Prelude.{ℕ, ◌+◌, ◌<◌, ◌≡◌, refl, Bool, true, false, ◌&&◌, List, ◌++◌, eqb, length, get_or}
-use Rattle.std.proofs.Common.{arith, sym, ap, ◌∙◌}
-use Rattle.std.proofs.Math.ListN.{get_or-eq_default}
+use Rattle.std.specs.Prelude.{Option, Some, None, MatchOption, ℕ, ◌+◌, ◌≤◌, ◌≡◌, refl, Bool, true, false, ◌&&◌, List, [], ◌∷◌, ◌++◌, eqb, length, take, drop}
+use Rattle.std.proofs.Common.{sym, ap, ◌∙◌}
+use denote.Ref.{Bor}
+use Rattle.std.specs.Option.{unwrap_or}
+use Rattle.std.specs.Cmp.Lexicographic.{pointwise}
 use Rattle.words.specs.declared.scan.Fault.{Fault}
-use Rattle.words.specs.declared.scan.Stop.{Stop}
 use Rattle.words.specs.declared.scan.Reader.{Reader}
 use Rattle.buffer.specs.Text.{Puts}
-use Rattle.words.specs.Scan.{text_read}
+use Rattle.words.specs.Scan.{unread, reader_next, read_all, text_read}
+use Rattle.words.proofs.ReadLaws.{reader_whole}
+use Rattle.std.proofs.Math.Seq.{take_all}
 use Rattle.words.specs.Faults.{line_behind, fault_line}
-use Rattle.words.specs.Sheets.{trailer_of, answer_text, unmarked}
+use Rattle.words.specs.Sheets.{trailer_of, answer_text, is_marked, unmarked}
+
+-- all bytes have been read, and one newline more is read at the end
+pub reader_done : (text : List ℕ) (n : ℕ) → length text ≤ n → reader_next (read_all unread (take n text)).reader 10 ≡ (text_read text).reader
+reader_done text n h = rw (take_all n text h) (reader_whole text)
 
 pub sheet_taken :
-    (text : List ℕ) → (text_read text).reader.stop ≡ Stop.Going
+    (text : List ℕ) → (text_read text).reader.stop ≡ None
     → (text_read text).records ++ trailer_of (length (text_read text).records) ≡ answer_text text
 unfolding answer_text
 sheet_taken text e = rw e
 
 -- a text that is refused: its line is put
 pub refused_puts :
-    (text : List ℕ) (r : Reader) {buf after : List ℕ} {f : Fault} {x : ℕ} → r ≡ (text_read text).reader → r.stop ≡ Stop.At f
+    (text : List ℕ) (r : Reader) {buf after : List ℕ} {f : Fault} {x : ℕ} → r ≡ (text_read text).reader → r.stop ≡ Some f
     → Puts buf 0 (fault_line (r.lines + 1) f (line_behind r.lines text)) after x
     → Puts buf 0 (answer_text text) after x
 unfolding answer_text
 refused_puts text r e s p =
     rw (ap (λ (y : Reader). y.stop) (sym e) ∙ s) (rw e at p)
 
-both_false : (t : Bool) → (t && false) ≡ false
-both_false true = refl
-both_false false = refl
+three_tests : (a b c : Bool) → (a && (b && (c && true))) ≡ ((a && b) && c)
+three_tests true true true = refl
+three_tests true true false = refl
+three_tests true false c = refl
+three_tests false b c = refl
 
--- three bytes are the least that has a mark
-pub short_unmarked : (text : List ℕ) → length text < 3 → unmarked text ≡ text
+-- the three bytes, tested one by one
+marked_three : (text : List ℕ) → pointwise eqb (take 3 text) (239 ∷ 187 ∷ 191 ∷ []) ≡ is_marked text
+marked_three [] = refl
+marked_three (x ∷ []) = three_tests (eqb x 239) false false
+marked_three (x ∷ y ∷ []) = three_tests (eqb x 239) (eqb y 187) false
+marked_three (x ∷ y ∷ z ∷ text) = three_tests (eqb x 239) (eqb y 187) (eqb z 191)
+
+-- what `strip_prefix` leaves of a text at the mark, or the text
+pub mark_stripped :
+    (text : List ℕ) (o : Option (Bor (List ℕ))) (d : Bor (List ℕ)) → d.now ≡ text
+    → MatchOption o (pointwise eqb (take 3 text) (239 ∷ 187 ∷ 191 ∷ []) ≡ false) (λ x. (pointwise eqb (take 3 text) (239 ∷ 187 ∷ 191 ∷ []) ≡ true) × (x.now ≡ drop 3 text) × (length x.now + 3 ≡ length text))
+    → (unwrap_or o d).now ≡ unmarked text
 unfolding unmarked
-short_unmarked text h =
-    rw (get_or-eq_default text 0 {n = 2} (omega arith), both_false (eqb (get_or text 0 0) 239 && eqb (get_or text 1 0) 187))
+mark_stripped text None d e m = rw (← marked_three text, m) e
+mark_stripped text (Some x) d e m = rw (← marked_three text, m.0) m.1

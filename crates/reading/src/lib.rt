@@ -13,18 +13,16 @@ use crate::reader::{gives_record, reader_next, unread};
 use buffer::put_text;
 use faults::named::put_fault_line;
 use scanning::line::end_of;
-use words::scan::{Reader, Stop};
+use words::scan::Reader;
 
 // The whole text, and what is wrong with it, if something is.
+#[tactic(auto, using(words::proofs::ReadLaws::reader_more, crate::proofs::Answering::reader_done), unfolding(words::specs::Scan::read_all))]
 fn read_text(text: &[u8]) -> Reader
     ensures { result ≡ (text_read text.now).reader }
 {
     let mut r = unread();
-    let mut i: usize = 0;
-    while i < text.len() {
-        let b = text[i];
-        r = reader_next(r, b);
-        i += 1;
+    for b in text {
+        r = reader_next(r, *b);
     }
     reader_next(r, b'\n')
 }
@@ -35,10 +33,7 @@ fn put_given(r: Reader, b: u8, out: &mut [u8], at: usize) -> usize
     ensures { Puts out.old at (given r b) out.new result × (result ≡ 16 * (reader_next r b).count) }
 {
     if gives_record(r, b) {
-        let scan = r.scan;
-        let s = end_of(scan);
-        let bytes = s.bytes;
-        return put_text(out, at, &bytes);
+        return put_text(out, at, &end_of(r.scan).bytes);
     }
     at
 }
@@ -49,13 +44,10 @@ fn put_records(text: &[u8], out: &mut [u8]) -> usize
     ensures { Puts out.old 0 (text_read text.now).records out.new result × (result ≤ 65520) }
 {
     let mut r = unread();
-    let mut at: usize = 0;
-    let mut i: usize = 0;
-    while i < text.len() {
-        let b = text[i];
-        at = put_given(r, b, out, at);
-        r = reader_next(r, b);
-        i += 1;
+    let mut at = 0;
+    for b in text {
+        at = put_given(r, *b, out, at);
+        r = reader_next(r, *b);
     }
     put_given(r, b'\n', out, at)
 }
@@ -65,10 +57,7 @@ fn put_trailer(out: &mut [u8], at: usize) -> usize
     requires { at + 8 ≤ length out.old }
     ensures { Puts out.old at (trailer_of at) out.new result }
 {
-    let a = (at % 256) as u8;
-    let b = (at / 256 % 256) as u8;
-    let c = (at / 65536 % 256) as u8;
-    let d = (at / 16777216 % 256) as u8;
+    let [a, b, c, d, ..] = at.to_le_bytes();
     let bytes = [a, b, c, d, b'P', b'A', b'S', b'S'];
     put_text(out, at, &bytes)
 }
@@ -78,13 +67,12 @@ fn put_answer(text: &[u8], out: &mut [u8; 65536]) -> usize
     ensures { Puts out.old 0 (answer_text text.now) out.new result × (result ≤ length out.new) }
 {
     let r = read_text(text);
-    let stop = r.stop;
-    match stop {
-        Stop::Going => {
+    match r.stop {
+        None => {
             let at = put_records(text, out);
             put_trailer(out, at)
         }
-        Stop::At(f) => put_fault_line(out, text, r.lines, f),
+        Some(f) => put_fault_line(out, text, r.lines, f),
     }
 }
 
@@ -92,13 +80,7 @@ fn put_answer(text: &[u8], out: &mut [u8; 65536]) -> usize
 fn unmarked(text: &[u8]) -> &[u8]
     ensures { result.now ≡ unmarked text.now }
 {
-    if text.len() < 3 {
-        return text;
-    }
-    if (text[0] == 239) & (text[1] == 187) & (text[2] == 191) {
-        return &text[3..];
-    }
-    text
+    text.strip_prefix(&[0xEF, 0xBB, 0xBF]).unwrap_or(text)
 }
 
 // The sheet that a text of words makes, at the front of the caller's buffer, or the line that names what is wrong.

@@ -1,20 +1,19 @@
 // A text under way, one byte more.
 ghost use Rattle.std.specs.Prelude.{◌<◌, ◌≡◌};
-ghost use Rattle.words.specs.declared.scan.Stop.{Stop};
-ghost use Rattle.words.specs.Scan.{reading, stopped, recorded, line_ended, judged, byte_read, blank, next_while, is_going, reader_next, says_record, gives_record};
+ghost use Rattle.words.specs.Scan.{reading, stopped, recorded, line_ended, judged, byte_read, blank, next_while, reader_next, gives_record};
 
 use scanning::line::{blank, end_of, scan_next, verdict_of};
-use words::scan::{Fault, LINE_MOST, LINES_MOST, RECORD_MOST, Reader, Scan, Stop, Verdict};
+use words::scan::{Fault, LINE_MOST, LINES_MOST, Line, RECORD_MOST, Reader, Scan};
 
 fn reading(lines: u32, count: u32, length: u32, scan: Scan) -> Reader
     ensures { result ≡ reading lines count length scan }
 {
     Reader {
-        stop: Stop::Going,
-        scan: scan,
-        length: length,
-        lines: lines,
-        count: count,
+        stop: None,
+        scan,
+        length,
+        lines,
+        count,
     }
 }
 
@@ -22,21 +21,13 @@ fn reading(lines: u32, count: u32, length: u32, scan: Scan) -> Reader
 pub(crate) fn unread() -> Reader
     ensures { result ≡ reading 0 0 0 blank }
 {
-    let s = blank();
-    reading(0, 0, 0, s)
+    reading(0, 0, 0, blank())
 }
 
 fn stopped(r: Reader, f: Fault) -> Reader
     ensures { result ≡ stopped r f }
 {
-    let scan = r.scan;
-    Reader {
-        stop: Stop::At(f),
-        scan: scan,
-        length: r.length,
-        lines: r.lines,
-        count: r.count,
-    }
+    Reader { stop: Some(f), ..r }
 }
 
 // A line that says a record has ended; a sheet holds at most 4,095.
@@ -45,24 +36,20 @@ fn recorded(r: Reader) -> Reader
     ensures { result ≡ recorded r }
 {
     if r.count < RECORD_MOST {
-        let s = blank();
-        return reading(r.lines + 1, r.count + 1, 0, s);
+        return reading(r.lines + 1, r.count + 1, 0, blank());
     }
     stopped(r, Fault::TooManyLines)
 }
 
 // A line has ended, and says a record, or nothing, or something wrong.
-fn judged(r: Reader, v: Verdict) -> Reader
+fn judged(r: Reader, says: Result<Line, Fault>) -> Reader
     requires { r.lines < 1000000 }
-    ensures { result ≡ judged r v }
+    ensures { result ≡ judged r says }
 {
-    match v {
-        Verdict::Blank => {
-            let s = blank();
-            reading(r.lines + 1, r.count, 0, s)
-        }
-        Verdict::Record => recorded(r),
-        Verdict::Wrong(f) => stopped(r, f),
+    match says {
+        Ok(Line::Blank) => reading(r.lines + 1, r.count, 0, blank()),
+        Ok(Line::Record) => recorded(r),
+        Err(f) => stopped(r, f),
     }
 }
 
@@ -70,10 +57,7 @@ fn line_ended(r: Reader) -> Reader
     ensures { result ≡ line_ended r }
 {
     if r.lines < LINES_MOST {
-        let scan = r.scan;
-        let s = end_of(scan);
-        let v = verdict_of(s);
-        return judged(r, v);
+        return judged(r, verdict_of(end_of(r.scan)));
     }
     stopped(r, Fault::TooManyLines)
 }
@@ -83,17 +67,15 @@ fn byte_read(r: Reader, b: u8) -> Reader
     ensures { result ≡ byte_read r b }
 {
     if r.length < LINE_MOST {
-        let scan = r.scan;
-        let s = scan_next(scan, b);
-        return reading(r.lines, r.count, r.length + 1, s);
+        return reading(r.lines, r.count, r.length + 1, scan_next(r.scan, b));
     }
     stopped(r, Fault::LineTooLong)
 }
 
 fn going_next(r: Reader, b: u8) -> Reader
-    ensures { result ≡ next_while Stop.Going r b }
+    ensures { result ≡ next_while None r b }
 {
-    if b == 10 {
+    if b == b'\n' {
         return line_ended(r);
     }
     byte_read(r, b)
@@ -104,29 +86,9 @@ fn going_next(r: Reader, b: u8) -> Reader
 pub(crate) fn reader_next(r: Reader, b: u8) -> Reader
     ensures { result ≡ reader_next r b }
 {
-    let stop = r.stop;
-    match stop {
-        Stop::Going => going_next(r, b),
-        Stop::At(_) => r,
-    }
-}
-
-fn says_record(v: Verdict) -> bool
-    ensures { result ≡ says_record v }
-{
-    match v {
-        Verdict::Blank => false,
-        Verdict::Record => true,
-        Verdict::Wrong(_) => false,
-    }
-}
-
-fn is_going(stop: Stop) -> bool
-    ensures { result ≡ is_going stop }
-{
-    match stop {
-        Stop::Going => true,
-        Stop::At(_) => false,
+    match r.stop {
+        None => going_next(r, b),
+        Some(_) => r,
     }
 }
 
@@ -135,11 +97,10 @@ fn is_going(stop: Stop) -> bool
 pub(crate) fn gives_record(r: Reader, b: u8) -> bool
     ensures { result ≡ gives_record r b }
 {
-    let stop = r.stop;
-    let scan = r.scan;
-    let s = end_of(scan);
-    let v = verdict_of(s);
-    let going = is_going(stop);
-    let says = says_record(v);
-    going & (b == 10) & (r.lines < LINES_MOST) & says & (r.count < RECORD_MOST)
+    let says = verdict_of(end_of(r.scan));
+    r.stop.is_none()
+        && b == b'\n'
+        && r.lines < LINES_MOST
+        && matches!(says, Ok(Line::Record))
+        && r.count < RECORD_MOST
 }

@@ -1,7 +1,8 @@
 -- What ./clearance prints: one definition over the words of the request, the two lists and the sheet, each any bytes. Assumes nothing.
 use Rattle.std.specs.Prelude.{ℕ, zero, suc, ◌/◌, Bool, cond, not, ◌&&◌, ◌||◌, List, [], ◌∷◌, ◌++◌, ltb, eqb, length, get_or, take, Ok, Err}
 use Rattle.rules.specs.declared.steps.Step.{Step}
-use Rattle.rules.specs.Types.{SheetAnswer, SheetRefusal}
+use Rattle.rules.specs.declared.steps.SheetRefusal.{SheetRefusal}
+use Rattle.rules.specs.Types.{SheetAnswer}
 use Rattle.rules.specs.declared.outcomes.Refusal.{Refusal}
 use Rattle.rules.specs.Tables.{start}
 use Rattle.rules.specs.Answers.{refusal_number}
@@ -83,10 +84,7 @@ checked_after part request =
 
 abbrev pub taken_by : SheetAnswer → List ℕ → List ℕ
 taken_by (Ok u) text = text
-taken_by (Err SheetRefusal.TooLong) text = sheet_line (sheet_number (Err SheetRefusal.TooLong))
-taken_by (Err SheetRefusal.TooShort) text = sheet_line (sheet_number (Err SheetRefusal.TooShort))
-taken_by (Err SheetRefusal.BadMark) text = sheet_line (sheet_number (Err SheetRefusal.BadMark))
-taken_by (Err SheetRefusal.BadDistance) text = sheet_line (sheet_number (Err SheetRefusal.BadDistance))
+taken_by (Err r) text = sheet_line (sheet_number (Err r))
 
 -- "over 16,384 bytes"
 abbrev pub is_too_long : List ℕ → Bool

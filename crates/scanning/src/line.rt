@@ -1,37 +1,34 @@
 // A line under way, one byte more.
 ghost use Rattle.std.specs.Prelude.{◌≤◌, ◌<◌, ◌≡◌, true};
-ghost use Rattle.words.specs.Scan.{at, blank, wrong, misplaced, followed, word_taken, filled, number_taken, end_of, noted, hex_taken, hex_next, is_letter, is_digit, lettered, numbered, token_begun, byte_by, live_next, scan_next, is_record, ends_at, verdict_of};
+ghost use Rattle.words.specs.Scan.{blank, wrong, misplaced, followed, word_taken, filled, number_taken, end_of, noted, hex_taken, hex_next, is_letter, is_digit, lettered, numbered, token_begun, byte_by, live_next, scan_next, is_record, ends_at, verdict_of};
 
 use crate::bytes::{hex_value, is_digit, is_hash, is_letter, is_space};
 use crate::fields::{most_in, said, slot_stored};
 use grammar::{edge_at, edge_of, may_end, slot_at};
-use words::rows::{EDGE_COUNT, Edge, RAW_NODE, Slot};
-use words::scan::{Fault, Mode, Scan, Verdict};
-
-fn made(mode: Mode, token: u64, node: u8, digits: u8, bytes: [u8; 16]) -> Scan
-    ensures { result ≡ at mode token node digits bytes }
-{
-    Scan {
-        mode: mode,
-        token: token,
-        node: node,
-        digits: digits,
-        bytes: bytes,
-    }
-}
+use words::rows::{Edge, RAW_NODE, Slot};
+use words::scan::{Fault, Line, Mode, Scan};
 
 // Before a line.
 pub fn blank() -> Scan
     ensures { result ≡ blank }
 {
-    made(Mode::Gap, 0, 0, 0, [0u8; 16])
+    Scan {
+        mode: Mode::Gap,
+        token: 0,
+        node: 0,
+        digits: 0,
+        bytes: [0; 16],
+    }
 }
 
 fn wrong(s: Scan, f: Fault) -> Scan
     ensures { result ≡ wrong s f }
 {
-    let bytes = s.bytes;
-    made(Mode::Wrong(f), 0, s.node, s.digits, bytes)
+    Scan {
+        mode: Mode::Wrong(f),
+        token: 0,
+        ..s
+    }
 }
 
 // A word or a number that does not belong here.
@@ -39,17 +36,22 @@ fn misplaced(s: Scan) -> Scan
     ensures { result ≡ misplaced s }
 {
     if may_end(s.node) {
-        return wrong(s, Fault::UnknownWord);
+        wrong(s, Fault::UnknownWord)
+    } else {
+        wrong(s, Fault::MissingField)
     }
-    wrong(s, Fault::MissingField)
 }
 
 fn followed(s: Scan, e: Edge) -> Scan
     ensures { result ≡ followed s e }
 {
-    let bytes = s.bytes;
-    let next = said(e.field, e.value, bytes);
-    made(Mode::Gap, 0, e.to, s.digits, next)
+    Scan {
+        mode: Mode::Gap,
+        token: 0,
+        node: e.to,
+        bytes: said(e.field, e.value, s.bytes),
+        ..s
+    }
 }
 
 // A word has ended.
@@ -57,24 +59,26 @@ fn followed(s: Scan, e: Edge) -> Scan
 fn word_taken(s: Scan) -> Scan
     ensures { result ≡ word_taken s }
 {
-    let k = edge_at(s.node, s.token);
-    if k < EDGE_COUNT {
-        let e = edge_of(k);
-        return followed(s, e);
+    match edge_at(s.node, s.token) {
+        Some(k) => followed(s, edge_of(k)),
+        None => misplaced(s),
     }
-    misplaced(s)
 }
 
 fn filled(s: Scan, f: Slot) -> Scan
     requires { f.field ≤ 12 }
     ensures { result ≡ filled s f }
 {
-    if most_in(f.width) < s.token {
+    if s.token > most_in(f.width) {
         return wrong(s, Fault::TooLarge);
     }
-    let bytes = s.bytes;
-    let next = slot_stored(f, s.token, bytes);
-    made(Mode::Gap, 0, f.to, s.digits, next)
+    Scan {
+        mode: Mode::Gap,
+        token: 0,
+        node: f.to,
+        bytes: slot_stored(f, s.token, s.bytes),
+        ..s
+    }
 }
 
 // A number has ended.
@@ -93,13 +97,10 @@ fn number_taken(s: Scan) -> Scan
 pub fn end_of(s: Scan) -> Scan
     ensures { result ≡ end_of s }
 {
-    let mode = s.mode;
-    match mode {
-        Mode::Gap => s,
+    match s.mode {
         Mode::Word => word_taken(s),
         Mode::Number => number_taken(s),
-        Mode::Comment => s,
-        Mode::Wrong(_) => s,
+        _ => s,
     }
 }
 
@@ -107,14 +108,13 @@ pub fn end_of(s: Scan) -> Scan
 fn noted(s: Scan) -> Scan
     ensures { result ≡ noted s }
 {
-    let bytes = s.bytes;
-    let mode = s.mode;
-    match mode {
-        Mode::Gap => made(Mode::Comment, 0, s.node, s.digits, bytes),
-        Mode::Word => s,
-        Mode::Number => s,
-        Mode::Comment => s,
-        Mode::Wrong(_) => s,
+    match s.mode {
+        Mode::Gap => Scan {
+            mode: Mode::Comment,
+            token: 0,
+            ..s
+        },
+        _ => s,
     }
 }
 
@@ -125,22 +125,23 @@ fn hex_taken(s: Scan, x: u8) -> Scan
 {
     let k = (s.digits / 2) as usize;
     let mut bytes = s.bytes;
-    let byte = bytes[k] % 16 * 16 + x;
-    bytes[k] = byte;
-    made(Mode::Gap, 0, s.node, s.digits + 1, bytes)
+    bytes[k] = bytes[k] % 16 * 16 + x;
+    Scan {
+        mode: Mode::Gap,
+        token: 0,
+        digits: s.digits + 1,
+        bytes,
+        ..s
+    }
 }
 
 fn hex_next(s: Scan, b: u8) -> Scan
     ensures { result ≡ hex_next s b }
 {
-    let x = hex_value(b);
-    if x < 16 {
-        if s.digits < 32 {
-            return hex_taken(s, x);
-        }
-        return wrong(s, Fault::UnknownWord);
+    match hex_value(b) {
+        Some(x) if s.digits < 32 => hex_taken(s, x as u8),
+        _ => wrong(s, Fault::UnknownWord),
     }
-    wrong(s, Fault::UnknownWord)
 }
 
 // A letter more; no word has more than twelve.
@@ -148,17 +149,14 @@ fn lettered(s: Scan, b: u8) -> Scan
     requires { is_letter b ≡ true }
     ensures { result ≡ lettered s b }
 {
-    if 36028797018963967 < s.token {
+    if s.token > 36028797018963967 {
         return wrong(s, Fault::UnknownWord);
     }
-    let bytes = s.bytes;
-    made(
-        Mode::Word,
-        s.token * 32 + (b - 96) as u64,
-        s.node,
-        s.digits,
-        bytes,
-    )
+    Scan {
+        mode: Mode::Word,
+        token: s.token * 32 + (b - 96) as u64,
+        ..s
+    }
 }
 
 // A digit more; no field has more than four bytes.
@@ -166,17 +164,14 @@ fn numbered(s: Scan, b: u8) -> Scan
     requires { is_digit b ≡ true }
     ensures { result ≡ numbered s b }
 {
-    if 429496729 < s.token {
+    if s.token > 429496729 {
         return wrong(s, Fault::TooLarge);
     }
-    let bytes = s.bytes;
-    made(
-        Mode::Number,
-        s.token * 10 + (b - 48) as u64,
-        s.node,
-        s.digits,
-        bytes,
-    )
+    Scan {
+        mode: Mode::Number,
+        token: s.token * 10 + (b - b'0') as u64,
+        ..s
+    }
 }
 
 // The first byte of a word or a number.
@@ -186,10 +181,7 @@ fn token_begun(s: Scan, b: u8) -> Scan
     if is_letter(b) {
         return lettered(s, b);
     }
-    if is_digit(b) {
-        return numbered(s, b);
-    }
-    wrong(s, Fault::UnknownWord)
+    in_number(s, b)
 }
 
 fn in_gap(s: Scan, b: u8) -> Scan
@@ -223,13 +215,11 @@ fn in_number(s: Scan, b: u8) -> Scan
 fn byte_taken(s: Scan, b: u8) -> Scan
     ensures { result ≡ byte_by s.mode s b }
 {
-    let mode = s.mode;
-    match mode {
+    match s.mode {
         Mode::Gap => in_gap(s, b),
         Mode::Word => in_word(s, b),
         Mode::Number => in_number(s, b),
-        Mode::Comment => s,
-        Mode::Wrong(_) => s,
+        Mode::Comment | Mode::Wrong(_) => s,
     }
 }
 
@@ -240,8 +230,7 @@ fn live_next(s: Scan, b: u8) -> Scan
         return end_of(s);
     }
     if is_hash(b) {
-        let ended = end_of(s);
-        return noted(ended);
+        return noted(end_of(s));
     }
     byte_taken(s, b)
 }
@@ -251,13 +240,9 @@ fn live_next(s: Scan, b: u8) -> Scan
 pub fn scan_next(s: Scan, b: u8) -> Scan
     ensures { result ≡ scan_next s b }
 {
-    let mode = s.mode;
-    match mode {
-        Mode::Gap => live_next(s, b),
-        Mode::Word => live_next(s, b),
-        Mode::Number => live_next(s, b),
-        Mode::Comment => s,
-        Mode::Wrong(_) => s,
+    match s.mode {
+        Mode::Gap | Mode::Word | Mode::Number => live_next(s, b),
+        Mode::Comment | Mode::Wrong(_) => s,
     }
 }
 
@@ -270,28 +255,24 @@ fn is_record(s: Scan) -> bool
     may_end(s.node)
 }
 
-fn ends_at(s: Scan) -> Verdict
+fn ends_at(s: Scan) -> Result<Line, Fault>
     ensures { result ≡ ends_at s }
 {
     if s.node == 0 {
-        return Verdict::Blank;
+        return Ok(Line::Blank);
     }
     if is_record(s) {
-        return Verdict::Record;
+        return Ok(Line::Record);
     }
-    Verdict::Wrong(Fault::MissingField)
+    Err(Fault::MissingField)
 }
 
 // What a line says whose last word or number has ended.
-pub fn verdict_of(s: Scan) -> Verdict
+pub fn verdict_of(s: Scan) -> Result<Line, Fault>
     ensures { result ≡ verdict_of s }
 {
-    let mode = s.mode;
-    match mode {
-        Mode::Gap => ends_at(s),
-        Mode::Word => ends_at(s),
-        Mode::Number => ends_at(s),
-        Mode::Comment => ends_at(s),
-        Mode::Wrong(f) => Verdict::Wrong(f),
+    match s.mode {
+        Mode::Wrong(f) => Err(f),
+        _ => ends_at(s),
     }
 }

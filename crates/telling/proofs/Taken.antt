@@ -1,6 +1,7 @@
 -- What is told of a sheet, taken or refused. Assumes nothing.
 use Rattle.std.proofs.Common.{◌/◌, ◌≡◌, ◌≢◌, refl, List, ℕ, length, Ok, Err}
-use Rattle.rules.specs.Types.{SheetAnswer, SheetRefusal}
+use Rattle.rules.specs.declared.steps.SheetRefusal.{SheetRefusal}
+use Rattle.rules.specs.Types.{SheetAnswer}
 use Rattle.rules.specs.Sheet.{sheet_answer, sheet_records}
 use Rattle.words.specs.Tell.{refused_sheet, sheet_by, told_up_to, plain_up_to, sheet_told, plain_of}
 
@@ -19,10 +20,7 @@ plain_taken b e = rw e
 -- a sheet that is not taken has one line
 refused_told_by : (a : SheetAnswer) (text : List ℕ) → a ≢ Ok tt → refused_sheet a ≡ sheet_by a text
 refused_told_by (Ok u) text h = absurd (h refl)
-refused_told_by (Err SheetRefusal.TooLong) text h = refl
-refused_told_by (Err SheetRefusal.TooShort) text h = refl
-refused_told_by (Err SheetRefusal.BadMark) text h = refl
-refused_told_by (Err SheetRefusal.BadDistance) text h = refl
+refused_told_by (Err r) text h = refl
 
 pub told_refused :
     (b : List ℕ) (a : SheetAnswer) → a ≡ sheet_answer b → a ≢ Ok tt → refused_sheet a ≡ sheet_told b

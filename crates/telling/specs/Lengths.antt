@@ -4,7 +4,8 @@ use Rattle.std.proofs.Common.{arith, ⊎_elim, lt-ltb, ltb-true, ltb-false, leng
 use Rattle.std.proofs.Math.ListN.{get_or-eq_default}
 use Rattle.rules.specs.declared.steps.Step.{Step}
 use Rattle.rules.specs.Types.{Reading}
-use Rattle.rules.specs.Types.{SheetAnswer, SheetRefusal}
+use Rattle.rules.specs.declared.steps.SheetRefusal.{SheetRefusal}
+use Rattle.rules.specs.Types.{SheetAnswer}
 use Rattle.rules.specs.Listing.{spelt, digits_of, decimal_of}
 use Rattle.rules.proofs.ListingLaws.{digits_length}
 use Rattle.rules.specs.LoopsLaws.{either, cond_keeps}

@@ -1,16 +1,15 @@
 -- Every text is answered: by a sheet that is taken and holds the records read, or by its first wrong line. Assumes nothing.
-use Rattle.std.specs.Prelude.{ℕ, ◌+◌, ◌*◌, ◌≤◌, ◌<◌, ◌≡◌, ◌&&◌, List, [], ◌∷◌, ◌++◌, ltb, eqb, get_or, Ok}
+use Rattle.std.specs.Prelude.{Option, None, Some, Err, ℕ, ◌+◌, ◌*◌, ◌≤◌, ◌<◌, ◌≡◌, ◌&&◌, List, [], ◌∷◌, ◌++◌, ltb, eqb, get_or, Ok}
 use Rattle.std.proofs.Common.{arith, add-zero, sym, ◌∙◌, ⊎_elim, ltb-true, ltb-false, eqb-true, lt-ltb, le-ltb, length-append}
 use Rattle.std.proofs.Math.Path.{refl, ap}
 use Rattle.std.proofs.Math.ListN.{length}
 use Rattle.std.proofs.Math.Seq.{get_or-append_seam}
 use Rattle.rules.specs.Loops.{one_if}
 use Rattle.rules.specs.LoopsLaws.{and_right, either}
-use Rattle.rules.specs.Types.{SheetAnswer}
 use Rattle.rules.specs.Sheet.{trailer_at, sheet_answer, sheet_records}
 use Rattle.rules.proofs.SheetLaws.{Whole, taken_whole}
 use Rattle.rules.specs.Listing.{decimal_of}
-use Rattle.words.specs.Types.{Fault, Stop, Verdict, Reader}
+use Rattle.words.specs.Types.{Fault, Reader}
 use Rattle.words.specs.Scan.{blank, scan_all, end_of, verdict_of, line_most, lines_most, reading, stopped, reader_next, Read, unread, read_next, read_all, text_read}
 use Rattle.words.specs.Say.{text_bytes}
 use Rattle.words.specs.Faults.{line_behind, fault_text, fault_line}
@@ -35,21 +34,21 @@ record Stops (t : Read) (text : List ℕ) (f : Fault) : Type 0 where
   byte : ℕ
   rest : List ℕ
   split : front ++ byte ∷ rest ≡ text
-  well : (read_all t front).reader.stop ≡ Stop.Going
-  here : (reader_next (read_all t front).reader byte).stop ≡ Stop.At f
+  well : (read_all t front).reader.stop ≡ None
+  here : (reader_next (read_all t front).reader byte).stop ≡ Some f
   lines : t.reader.lines + newlines_in front ≡ (read_all t text).reader.lines
 
 -- one byte of it, by whether reading goes on after it
 stops_by :
-    (stop : Stop) (t : Read) (b : ℕ) (bs : List ℕ) (f : Fault) → t.reader.stop ≡ Stop.Going
+    (stop : Option Fault) (t : Read) (b : ℕ) (bs : List ℕ) (f : Fault) → t.reader.stop ≡ None
     → (reader_next t.reader b).stop ≡ stop
-    → (read_all (read_next t b) bs).reader.stop ≡ Stop.At f
-    → ((reader_next t.reader b).stop ≡ Stop.Going → Stops (read_next t b) bs f)
+    → (read_all (read_next t b) bs).reader.stop ≡ Some f
+    → ((reader_next t.reader b).stop ≡ None → Stops (read_next t b) bs f)
     → Stops t (b ∷ bs) f
 unfolding read_all read_next
-stops_by Stop.Going t b bs f e g a more =
+stops_by None t b bs f e g a more =
     let s : Stops (read_next t b) bs f = more g in
-    let l : (reader_next t.reader b).lines ≡ t.reader.lines + one_if (eqb b 10) = (lined_by Stop.Going t.reader b e g).0 in
+    let l : (reader_next t.reader b).lines ≡ t.reader.lines + one_if (eqb b 10) = (lined_by None t.reader b e g).0 in
     let k : (reader_next t.reader b).lines + newlines_in s.front ≡ (read_all (read_next t b) bs).reader.lines = s.lines in
     record {
       front = b ∷ s.front;
@@ -60,9 +59,9 @@ stops_by Stop.Going t b bs f e g a more =
       here = s.here;
       lines = omega (arith, l, k);
     }
-stops_by (Stop.At x) t b bs f e g a more =
+stops_by (Some x) t b bs f e g a more =
     let stays : (read_all (read_next t b) bs).reader ≡ reader_next t.reader b = stopped_stays (read_next t b) bs x g in
-    let l : (reader_next t.reader b).lines ≡ t.reader.lines = lined_by (Stop.At x) t.reader b e g in
+    let l : (reader_next t.reader b).lines ≡ t.reader.lines = lined_by (Some x) t.reader b e g in
     record {
       front = [];
       byte = b;
@@ -73,7 +72,7 @@ stops_by (Stop.At x) t b bs f e g a more =
       lines = add-zero t.reader.lines ∙ sym l ∙ ap (λ (r : Reader). r.lines) (sym stays);
     }
 
-stops_at : (bs : List ℕ) (t : Read) (f : Fault) → t.reader.stop ≡ Stop.Going → (read_all t bs).reader.stop ≡ Stop.At f → Stops t bs f
+stops_at : (bs : List ℕ) (t : Read) (f : Fault) → t.reader.stop ≡ None → (read_all t bs).reader.stop ≡ Some f → Stops t bs f
 unfolding read_all read_next
 stops_at [] t f e a = absurd (let z : ◌≡◌ {A = ℕ} 0 1 = cc in omega arith)
 stops_at (b ∷ bs) t f e a = stops_by (reader_next t.reader b).stop t b bs f e refl a (λ g. stops_at bs (read_next t b) f g a)
@@ -85,15 +84,15 @@ pub record FirstWrong (text : List ℕ) (line : ℕ) (f : Fault) : Type 0 where
   pub byte : ℕ
   pub rest : List ℕ
   pub split : front ++ byte ∷ rest ≡ text ++ (10 ∷ [])
-  pub well : (read_all unread front).reader.stop ≡ Stop.Going
-  pub here : (reader_next (read_all unread front).reader byte).stop ≡ Stop.At f
+  pub well : (read_all unread front).reader.stop ≡ None
+  pub here : (reader_next (read_all unread front).reader byte).stop ≡ Some f
   pub number : newlines_in front + 1 ≡ line
 
 whole_read : (text : List ℕ) → read_all unread (text ++ (10 ∷ [])) ≡ text_read text
 unfolding read_all text_read
 whole_read text = read_append unread text (10 ∷ [])
 
-pub first_wrong : (text : List ℕ) (f : Fault) → (text_read text).reader.stop ≡ Stop.At f → FirstWrong text ((text_read text).reader.lines + 1) f
+pub first_wrong : (text : List ℕ) (f : Fault) → (text_read text).reader.stop ≡ Some f → FirstWrong text ((text_read text).reader.lines + 1) f
 first_wrong text f e =
     let s : Stops unread (text ++ (10 ∷ [])) f = stops_at (text ++ (10 ∷ [])) unread f refl (ap (λ (t : Read). t.reader.stop) (whole_read text) ∙ e) in
     let l : (read_all unread (text ++ (10 ∷ []))).reader.lines ≡ (text_read text).reader.lines = ap (λ (t : Read). t.reader.lines) (whole_read text) in
@@ -122,7 +121,7 @@ module _ (text : List ℕ) where
     text_short = rw (le-ltb text_most (length text) short)
 
     -- a text whose every line is well gives the sheet of its records
-    module _ (going : (text_read (unmarked text)).reader.stop ≡ Stop.Going) where
+    module _ (going : (text_read (unmarked text)).reader.stop ≡ None) where
       pub text_sheet : sheet_text text ≡ sheet_of (text_read (unmarked text)).records
       unfolding answer_text
       text_sheet = rw (text_short, going)
@@ -145,7 +144,7 @@ module _ (text : List ℕ) where
 
     -- any other gives the line that says what is wrong
     pub text_fault :
-        (f : Fault) → (text_read (unmarked text)).reader.stop ≡ Stop.At f
+        (f : Fault) → (text_read (unmarked text)).reader.stop ≡ Some f
         → sheet_text text ≡ fault_line ((text_read (unmarked text)).reader.lines + 1) f (line_behind (text_read (unmarked text)).reader.lines (unmarked text))
     unfolding answer_text
     text_fault f at = rw (text_short, at)
@@ -154,7 +153,7 @@ module _ (text : List ℕ) where
 pub data Answered (text : List ℕ) : Type 0 where
   Sheet :
       length text ≤ text_most
-      → (text_read (unmarked text)).reader.stop ≡ Stop.Going
+      → (text_read (unmarked text)).reader.stop ≡ None
       → sheet_answer (sheet_text text) ≡ Ok tt
       → sheet_records (sheet_text text) ≡ (text_read (unmarked text)).records
       → Answered text
@@ -164,9 +163,9 @@ pub data Answered (text : List ℕ) : Type 0 where
       → Answered text
   Long : text_most < length text → sheet_text text ≡ long_line → Answered text
 
-answered_by : (stop : Stop) (text : List ℕ) → length text ≤ text_most → (text_read (unmarked text)).reader.stop ≡ stop → Answered text
-answered_by Stop.Going text short e = Answered.Sheet short e (text_taken text short e) (text_holds text short e)
-answered_by (Stop.At f) text short e =
+answered_by : (stop : Option Fault) (text : List ℕ) → length text ≤ text_most → (text_read (unmarked text)).reader.stop ≡ stop → Answered text
+answered_by None text short e = Answered.Sheet short e (text_taken text short e) (text_holds text short e)
+answered_by (Some f) text short e =
     Answered.Wrong (text_read (unmarked text)).reader.lines f short (first_wrong (unmarked text) f e) (text_fault text short f e)
 
 -- every text is answered by a sheet, by its first wrong line, or as too long
@@ -199,7 +198,7 @@ fault_no_sheet number f line e =
 -- ---- and the other way round: what is wrong with a line after lines that are well is what is said
 
 -- a line that says something wrong: reading stops, and there is no record
-pub wrong_stops : (r : Reader) (f : Fault) → r.stop ≡ Stop.Going → r.lines < lines_most → verdict_of (end_of r.scan) ≡ Verdict.Wrong f → reader_next r 10 ≡ stopped r f
+pub wrong_stops : (r : Reader) (f : Fault) → r.stop ≡ None → r.lines < lines_most → verdict_of (end_of r.scan) ≡ Err f → reader_next r 10 ≡ stopped r f
 unfolding reader_next
 wrong_stops r f going few e = rw (going, lt-ltb r.lines lines_most few, e)
 
@@ -209,7 +208,7 @@ module _ (front line rest : List ℕ) (lines count : ℕ) (records : List ℕ) (
     (few : lines < lines_most)
     (one : OneLine line)
     (short : length line ≤ line_most)
-    (says : verdict_of (end_of (scan_all blank line)) ≡ Verdict.Wrong f) where
+    (says : verdict_of (end_of (scan_all blank line)) ≡ Err f) where
   -- the reader stops at its end
   line_stops : (read_all unread (front ++ (line ++ (10 ∷ rest)))).reader ≡ stopped (reading lines count (0 + length line) (scan_all blank line)) f
   unfolding read_all read_next

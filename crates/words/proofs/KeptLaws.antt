@@ -1,8 +1,8 @@
 -- What reading keeps: a record under way has sixteen bytes, and the records so far have sixteen for each one counted. Assumes nothing.
-use Rattle.std.specs.Prelude.{ℕ, ◌+◌, ◌*◌, ◌/◌, ◌%◌, ◌≤◌, ◌≡◌, refl, Bool, true, false, cond, ◌&&◌, List, [], ◌∷◌, ltb, eqb, length, get_or}
+use Rattle.std.specs.Prelude.{Option, None, Some, Ok, Err, ℕ, ◌+◌, ◌*◌, ◌/◌, ◌%◌, ◌≤◌, ◌≡◌, refl, Bool, true, false, cond, ◌&&◌, List, [], ◌∷◌, ltb, eqb, length, get_or}
 use Rattle.std.proofs.Common.{arith, ◌∙◌, ⊎_elim, length-append, length-set}
 use Rattle.rules.specs.LoopsLaws.{either, cond_keeps}
-use Rattle.words.specs.Types.{Slot, Fault, Mode, Scan, Verdict, Stop, Reader}
+use Rattle.words.specs.Types.{Slot, Fault, Mode, Scan, Line, Verdict, Reader}
 use Rattle.words.specs.Grammar.{edge_count, edge_of, edge_at, slot_at, most_in, raw_node, said, put_two, put_four, slot_stored}
 use Rattle.words.specs.Scan.{is_space, is_hash, is_letter, is_digit, hex_value, at, blank, wrong, misplaced, followed, word_taken, filled, number_taken, end_by, end_of, noted_by, noted, hex_taken, hex_next, lettered, numbered, token_begun, byte_by, live_next, next_by, scan_next, verdict_of, line_most, record_most, lines_most, reading, stopped, judged, line_ended, byte_read, next_while, reader_next, gives_record, given, Read, unread, read_next, read_all, text_read}
 use Rattle.words.proofs.ReadLaws.{next_count, count_most}
@@ -102,16 +102,16 @@ cond_sixteen : (t : Bool) (x y : Reader) → Long x.scan 16 → Long y.scan 16 �
 cond_sixteen = cond_keeps (λ (r : Reader). Long r.scan 16)
 
 judged_sixteen : (r : Reader) (v : Verdict) → Long r.scan 16 → Long (judged r v).scan 16
-judged_sixteen r Verdict.Blank h = refl
-judged_sixteen r Verdict.Record h = cond_sixteen (ltb r.count record_most) (reading (r.lines + 1) (r.count + 1) 0 blank) (stopped r Fault.TooManyLines) refl h
-judged_sixteen r (Verdict.Wrong f) h = h
+judged_sixteen r (Ok Line.Blank) h = refl
+judged_sixteen r (Ok Line.Record) h = cond_sixteen (ltb r.count record_most) (reading (r.lines + 1) (r.count + 1) 0 blank) (stopped r Fault.TooManyLines) refl h
+judged_sixteen r (Err f) h = h
 
-while_sixteen : (stop : Stop) (r : Reader) (b : ℕ) → Long r.scan 16 → Long (next_while stop r b).scan 16
-while_sixteen Stop.Going r b h =
+while_sixteen : (stop : Option Fault) (r : Reader) (b : ℕ) → Long r.scan 16 → Long (next_while stop r b).scan 16
+while_sixteen None r b h =
     cond_sixteen (eqb b 10) (line_ended r) (byte_read r b)
     (cond_sixteen (ltb r.lines lines_most) (judged r (verdict_of (end_of r.scan))) (stopped r Fault.TooManyLines) (judged_sixteen r (verdict_of (end_of r.scan)) h) h)
     (cond_sixteen (ltb r.length line_most) (reading r.lines r.count (r.length + 1) (scan_next r.scan b)) (stopped r Fault.LineTooLong) (scan_long r.scan b ∙ h) h)
-while_sixteen (Stop.At f) r b h = h
+while_sixteen (Some f) r b h = h
 
 pub reader_sixteen : (r : Reader) (b : ℕ) → length r.scan.bytes ≡ 16 → length (reader_next r b).scan.bytes ≡ 16
 unfolding reader_next

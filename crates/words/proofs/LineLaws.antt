@@ -1,9 +1,9 @@
 -- Where a line stands in a text: its number, and that the line behind so many others is the one under way. Assumes nothing.
-use Rattle.std.specs.Prelude.{ℕ, zero, suc, ◌+◌, ◌≡◌, refl, Bool, true, false, cond, List, [], ◌∷◌, ◌++◌, ltb, eqb, length}
+use Rattle.std.specs.Prelude.{Option, None, Some, Ok, Err, ℕ, zero, suc, ◌+◌, ◌≡◌, refl, Bool, true, false, cond, List, [], ◌∷◌, ◌++◌, ltb, eqb, length}
 use Rattle.std.proofs.Common.{arith, add-zero, zero-add, sym, ap, ◌∙◌, subst, ⊎_elim, append_assoc, eqb-true, length-append}
 use Rattle.rules.specs.Loops.{one_if}
 use Rattle.rules.specs.LoopsLaws.{either, cond_keeps}
-use Rattle.words.specs.Types.{Fault, Verdict, Stop, Reader}
+use Rattle.words.specs.Types.{Fault, Line, Verdict, Reader}
 use Rattle.words.specs.Scan.{blank, scan_next, end_of, verdict_of, line_most, record_most, lines_most, reading, stopped, judged, line_ended, byte_read, next_while, reader_next, Read, unread, read_next, read_all}
 use Rattle.words.specs.Faults.{lines_past, up_to_newline, line_behind}
 use Rattle.words.proofs.TextLaws.{OneLine, going}
@@ -11,10 +11,10 @@ use Rattle.words.proofs.TextLaws.{OneLine, going}
 -- ---- one byte more
 
 -- where reading goes on, a newline ends a line and no other byte does; where it stops, the line is the one under way
-abbrev pub LinedBy : Stop → Reader → Reader → Bool → Type 0
-LinedBy Stop.Going now before newline =
+abbrev pub LinedBy : Option Fault → Reader → Reader → Bool → Type 0
+LinedBy None now before newline =
     (now.lines ≡ before.lines + one_if newline) × (now.length ≡ cond newline 0 (before.length + 1))
-LinedBy (Stop.At f) now before newline = now.lines ≡ before.lines
+LinedBy (Some f) now before newline = now.lines ≡ before.lines
 
 abbrev Lined : Reader → Reader → Bool → Type 0
 Lined now before newline = LinedBy now.stop now before newline
@@ -23,9 +23,9 @@ cond_lined : (t : Bool) (x y r : Reader) (newline : Bool) → Lined x r newline 
 cond_lined t x y r newline = cond_keeps (λ (z : Reader). Lined z r newline) t x y
 
 judged_lined : (r : Reader) (v : Verdict) → Lined (judged r v) r true
-judged_lined r Verdict.Blank = (refl, refl)
-judged_lined r Verdict.Record = cond_lined (ltb r.count record_most) (reading (r.lines + 1) (r.count + 1) 0 blank) (stopped r Fault.TooManyLines) r true (refl, refl) refl
-judged_lined r (Verdict.Wrong f) = refl
+judged_lined r (Ok Line.Blank) = (refl, refl)
+judged_lined r (Ok Line.Record) = cond_lined (ltb r.count record_most) (reading (r.lines + 1) (r.count + 1) 0 blank) (stopped r Fault.TooManyLines) r true (refl, refl) refl
+judged_lined r (Err f) = refl
 
 end_lined : (r : Reader) → Lined (line_ended r) r true
 end_lined r = cond_lined (ltb r.lines lines_most) (judged r (verdict_of (end_of r.scan))) (stopped r Fault.TooManyLines) r true (judged_lined r (verdict_of (end_of r.scan))) refl
@@ -37,20 +37,20 @@ newline_lined : (newline : Bool) (r : Reader) (b : ℕ) → Lined (cond newline 
 newline_lined true r b = end_lined r
 newline_lined false r b = byte_lined r b
 
-next_lined : (r : Reader) (b : ℕ) → r.stop ≡ Stop.Going → Lined (reader_next r b) r (eqb b 10)
+next_lined : (r : Reader) (b : ℕ) → r.stop ≡ None → Lined (reader_next r b) r (eqb b 10)
 unfolding reader_next
-next_lined r b e = subst (λ (s : Stop). Lined (next_while s r b) r (eqb b 10)) (sym e) (newline_lined (eqb b 10) r b)
+next_lined r b e = subst (λ (s : Option Fault). Lined (next_while s r b) r (eqb b 10)) (sym e) (newline_lined (eqb b 10) r b)
 
 -- by whether reading goes on after it
-pub lined_by : (stop : Stop) (r : Reader) (b : ℕ) → r.stop ≡ Stop.Going → (reader_next r b).stop ≡ stop → LinedBy stop (reader_next r b) r (eqb b 10)
-lined_by stop r b e g = subst (λ (s : Stop). LinedBy s (reader_next r b) r (eqb b 10)) g (next_lined r b e)
+pub lined_by : (stop : Option Fault) (r : Reader) (b : ℕ) → r.stop ≡ None → (reader_next r b).stop ≡ stop → LinedBy stop (reader_next r b) r (eqb b 10)
+lined_by stop r b e g = subst (λ (s : Option Fault). LinedBy s (reader_next r b) r (eqb b 10)) g (next_lined r b e)
 
 -- after something wrong nothing is read
-pub stopped_stays : (t : Read) (bs : List ℕ) (f : Fault) → t.reader.stop ≡ Stop.At f → (read_all t bs).reader ≡ t.reader
+pub stopped_stays : (t : Read) (bs : List ℕ) (f : Fault) → t.reader.stop ≡ Some f → (read_all t bs).reader ≡ t.reader
 unfolding read_all read_next reader_next
 stopped_stays t [] f e = refl
 stopped_stays t (b ∷ bs) f e =
-    let same : (read_next t b).reader ≡ t.reader = ap (λ (s : Stop). next_while s t.reader b) e in
+    let same : (read_next t b).reader ≡ t.reader = ap (λ (s : Option Fault). next_while s t.reader b) e in
     stopped_stays (read_next t b) bs f (ap (λ (r : Reader). r.stop) same ∙ e) ∙ same
 
 -- ---- a line in a text
@@ -104,7 +104,7 @@ one_line_more (x ∷ under) b one other = (one.0, one_line_more under b one.1 ot
 
 byte_under :
     (newline : Bool) (t : Read) (under : List ℕ) (b : ℕ) (bytes : List ℕ) → eqb b 10 ≡ newline → OneLine under
-    → t.reader.length ≡ length under → LinedBy Stop.Going (reader_next t.reader b) t.reader newline
+    → t.reader.length ≡ length under → LinedBy None (reader_next t.reader b) t.reader newline
     → ((next : List ℕ) → OneLine next → (reader_next t.reader b).length ≡ length next → Under (read_next t b) next bytes)
     → Under t under (b ∷ bytes)
 unfolding read_all read_next lines_past
@@ -135,21 +135,21 @@ byte_under false t under b bytes e one long lined more =
     }
 
 under_by :
-    (stop : Stop) (t : Read) (under : List ℕ) (b : ℕ) (bytes : List ℕ) → t.reader.stop ≡ Stop.Going → OneLine under
+    (stop : Option Fault) (t : Read) (under : List ℕ) (b : ℕ) (bytes : List ℕ) → t.reader.stop ≡ None → OneLine under
     → t.reader.length ≡ length under → (reader_next t.reader b).stop ≡ stop
-    → (read_all (read_next t b) bytes).reader.stop ≡ Stop.Going
-    → ((next : List ℕ) → (reader_next t.reader b).stop ≡ Stop.Going → OneLine next → (reader_next t.reader b).length ≡ length next → Under (read_next t b) next bytes)
+    → (read_all (read_next t b) bytes).reader.stop ≡ None
+    → ((next : List ℕ) → (reader_next t.reader b).stop ≡ None → OneLine next → (reader_next t.reader b).length ≡ length next → Under (read_next t b) next bytes)
     → Under t under (b ∷ bytes)
 unfolding read_next
-under_by Stop.Going t under b bytes e one long g a more =
-    byte_under (eqb b 10) t under b bytes refl one long (lined_by Stop.Going t.reader b e g) (λ next. more next g)
-under_by (Stop.At f) t under b bytes e one long g a more =
+under_by None t under b bytes e one long g a more =
+    byte_under (eqb b 10) t under b bytes refl one long (lined_by None t.reader b e g) (λ next. more next g)
+under_by (Some f) t under b bytes e one long g a more =
     let stays : (read_all (read_next t b) bytes).reader ≡ reader_next t.reader b = stopped_stays (read_next t b) bytes f g in
     absurd (let z : ◌≡◌ {A = ℕ} 0 1 = cc in omega arith)
 
 under_way :
-    (bytes : List ℕ) (t : Read) (under : List ℕ) → t.reader.stop ≡ Stop.Going → OneLine under
-    → t.reader.length ≡ length under → (read_all t bytes).reader.stop ≡ Stop.Going → Under t under bytes
+    (bytes : List ℕ) (t : Read) (under : List ℕ) → t.reader.stop ≡ None → OneLine under
+    → t.reader.length ≡ length under → (read_all t bytes).reader.stop ≡ None → Under t under bytes
 unfolding read_all read_next lines_past
 under_way [] t under e one long a =
     record {

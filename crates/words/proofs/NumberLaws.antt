@@ -1,5 +1,5 @@
 -- Numbers in a line: one that fits its field is stored as it is, and one that is too large is an error, not a wrap. Assumes nothing.
-use Rattle.std.specs.Prelude.{ℕ, ◌+◌, ◌*◌, ◌-◌, ◌^◌, ◌≤◌, ◌<◌, ◌≡◌, Bool, true, false, ◌||◌, ltb, eqb}
+use Rattle.std.specs.Prelude.{Err, ℕ, ◌+◌, ◌*◌, ◌-◌, ◌^◌, ◌≤◌, ◌<◌, ◌≡◌, Bool, true, false, ◌||◌, ltb, eqb}
 use Rattle.std.proofs.Common.{arith, zero-add, sym, ◌∙◌, true≢false}
 use Rattle.std.proofs.Math.Path.{refl, ap, subst}
 use Rattle.std.proofs.Math.Logic.{⊎_elim}
@@ -9,7 +9,7 @@ use Rattle.std.proofs.Math.ListN.{get_or-eq_default}
 use Rattle.rules.specs.Loops.{every_up_to}
 use Rattle.rules.specs.LoopsLaws.{either, every_at}
 use Rattle.rules.proofs.RecordLaws.{Each, each_row_at}
-use Rattle.words.specs.Types.{Slot, Fault, Mode, Scan, Verdict}
+use Rattle.words.specs.Types.{Slot, Fault, Mode, Scan}
 use Rattle.words.specs.Grammar.{none, slots, slot_at, most_in, raw_node, slot_stored}
 use Rattle.words.specs.Scan.{is_space, is_hash, at, blank, number_taken, end_of, scan_next, scan_all, verdict_by, verdict_of}
 use Rattle.words.proofs.Spelling.{end_again, space_ends, wrong_stays, comment_verdict}
@@ -153,7 +153,7 @@ Ends [] = Unit {0}
 Ends (b ∷ bs) = (is_space b || is_hash b) ≡ true
 
 -- whatever ended with something wrong stays wrong
-ended_wrong : (s : Scan) (f : Fault) (rest : List ℕ) → (end_of s).mode ≡ Mode.Wrong f → Ends rest → verdict_of (end_of (scan_all s rest)) ≡ Verdict.Wrong f
+ended_wrong : (s : Scan) (f : Fault) (rest : List ℕ) → (end_of s).mode ≡ Mode.Wrong f → Ends rest → verdict_of (end_of (scan_all s rest)) ≡ Err f
 unfolding scan_all
 ended_wrong s f [] e ends = ap (λ (m : Mode). verdict_by m (end_of s)) e
 ended_wrong s f (b ∷ bs) e ends =
@@ -177,7 +177,7 @@ pub too_large :
     → Digits (d ∷ ds)
     → most_in (slot_at node).width < value_from 0 (d ∷ ds)
     → Ends rest
-    → verdict_of (end_of (scan_all blank (front ++ (digit_text (d ∷ ds) ++ rest)))) ≡ Verdict.Wrong Fault.TooLarge
+    → verdict_of (end_of (scan_all blank (front ++ (digit_text (d ∷ ds) ++ rest)))) ≡ Err Fault.TooLarge
 too_large front node digits bytes d ds rest there takes all more ends =
     ap (λ (s : Scan). verdict_of (end_of s)) (
     scan_append blank front (digit_text (d ∷ ds) ++ rest)

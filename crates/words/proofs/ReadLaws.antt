@@ -1,11 +1,11 @@
 -- Laws of reading a text byte by byte, for the loops that do it. Assumes nothing.
-use Rattle.std.specs.Prelude.{ℕ, ◌+◌, ◌≤◌, ◌<◌, ◌≡◌, Bool, true, false, cond, ◌&&◌, List, [], ◌∷◌, ◌++◌, ltb, eqb, length, get_or, take}
+use Rattle.std.specs.Prelude.{Option, None, Some, Ok, Err, ℕ, ◌+◌, ◌≤◌, ◌<◌, ◌≡◌, Bool, true, false, cond, ◌&&◌, List, [], ◌∷◌, ◌++◌, ltb, eqb, length, get_or, take}
 use Rattle.std.proofs.Common.{arith, add-one, ap, ⊎_elim, ltb-true, take-suc}
 use Rattle.std.proofs.Math.Nat.{add-zero}
 use Rattle.std.proofs.Math.Path.{refl}
 use Rattle.rules.specs.Loops.{one_if}
 use Rattle.rules.specs.LoopsLaws.{and_right, either, cond_keeps}
-use Rattle.words.specs.Types.{Fault, Verdict, Stop, Reader}
+use Rattle.words.specs.Types.{Fault, Line, Verdict, Reader}
 use Rattle.words.specs.Scan.{blank, scan_next, reading, stopped, is_going, says_record, verdict_of, end_of, line_most, record_most, lines_most, reader_next, gives_record, given, Read, unread, read_next, read_all, text_read}
 use Rattle.words.proofs.TextLaws.{read_append}
 
@@ -21,7 +21,7 @@ one_count false x y n p q = rw add-zero q
 abbrev CountsOn : Reader → ℕ → Type 0
 CountsOn r b = (reader_next r b).count ≡ r.count + one_if (gives_record r b)
 
-module _ (r : Reader) (b : ℕ) (going : r.stop ≡ Stop.Going) where
+module _ (r : Reader) (b : ℕ) (going : r.stop ≡ None) where
   byte_counts : eqb b 10 ≡ false → CountsOn r b
   unfolding reader_next gives_record
   byte_counts e =
@@ -34,9 +34,9 @@ module _ (r : Reader) (b : ℕ) (going : r.stop ≡ Stop.Going) where
 
   line_counts : (v : Verdict) → eqb b 10 ≡ true → ltb r.lines lines_most ≡ true → verdict_of (end_of r.scan) ≡ v → CountsOn r b
   unfolding reader_next gives_record
-  line_counts Verdict.Blank e l w = rw (going, e, l, w, add-zero r.count)
-  line_counts (Verdict.Wrong f) e l w = rw (going, e, l, w, add-zero r.count)
-  line_counts Verdict.Record e l w =
+  line_counts (Ok Line.Blank) e l w = rw (going, e, l, w, add-zero r.count)
+  line_counts (Err f) e l w = rw (going, e, l, w, add-zero r.count)
+  line_counts (Ok Line.Record) e l w =
       rw (going, e, l, w)
       (one_count (ltb r.count record_most) (reading (r.lines + 1) (r.count + 1) 0 blank) (stopped r Fault.TooManyLines) r.count refl refl)
 
@@ -51,10 +51,10 @@ module _ (r : Reader) (b : ℕ) (going : r.stop ≡ Stop.Going) where
       (λ e. byte_counts e)
       (either (eqb b 10))
 
-counts_by : (stop : Stop) (r : Reader) (b : ℕ) → r.stop ≡ stop → CountsOn r b
+counts_by : (stop : Option Fault) (r : Reader) (b : ℕ) → r.stop ≡ stop → CountsOn r b
 unfolding reader_next gives_record
-counts_by Stop.Going r b e = going_counts r b e
-counts_by (Stop.At f) r b e = rw (e, add-zero r.count)
+counts_by None r b e = going_counts r b e
+counts_by (Some f) r b e = rw (e, add-zero r.count)
 
 pub next_count : (r : Reader) (b : ℕ) → (reader_next r b).count ≡ r.count + one_if (gives_record r b)
 next_count r b = counts_by r.stop r b refl

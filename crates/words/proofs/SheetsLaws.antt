@@ -6,7 +6,7 @@ use borrow.Author.Tests.{le-ltb, eqb-true}
 use Rattle.std.proofs.Math.ListN.{length}
 use Rattle.std.proofs.Math.Seq.{take-length, take-append_seam}
 use Rattle.rules.specs.Loops.{joined}
-use Rattle.rules.specs.Types.{SheetAnswer, SheetRefusal}
+use Rattle.rules.specs.Types.{SheetAnswer}
 use Rattle.rules.proofs.RecordLaws.{Bytes16}
 use Rattle.rules.specs.Record.{long_bytes}
 use Rattle.rules.specs.Sheet.{trailer_at, distance_of, sheet_answer, sheet_records, record_at, records_up_to}
@@ -84,10 +84,7 @@ drop_bytes k l h i = rw (get_or-drop k l i 0) (h (k + i))
 pub sheet_bytes : (a : SheetAnswer) (b : List ℕ) → sheet_answer b ≡ a → ((i : ℕ) → get_or b i 0 < 256) → (i : ℕ) → get_or (sheet_records b) i 0 < 256
 unfolding sheet_records
 sheet_bytes (Ok u) b e h i = rw e (take_bytes (distance_of b) (drop (trailer_at b - distance_of b) b) (drop_bytes (trailer_at b - distance_of b) b h) i)
-sheet_bytes (Err SheetRefusal.TooLong) b e h i = rw e (omega arith)
-sheet_bytes (Err SheetRefusal.TooShort) b e h i = rw e (omega arith)
-sheet_bytes (Err SheetRefusal.BadMark) b e h i = rw e (omega arith)
-sheet_bytes (Err SheetRefusal.BadDistance) b e h i = rw e (omega arith)
+sheet_bytes (Err r) b e h i = rw e (omega arith)
 
 pub sheet_most_lem : (a : SheetAnswer) (b : List ℕ) → sheet_answer b ≡ a → length (sheet_records b) ≤ 65520
 unfolding sheet_records
@@ -97,10 +94,7 @@ sheet_most_lem (Ok tt) b e =
     let s : distance_of b % 16 ≡ 0 = w.sixteens in
     let d : distance_of b ≤ length b - 8 = w.within in
     rw (taken_length b e) (omega arith)
-sheet_most_lem (Err SheetRefusal.TooLong) b e = rw e (omega arith)
-sheet_most_lem (Err SheetRefusal.TooShort) b e = rw e (omega arith)
-sheet_most_lem (Err SheetRefusal.BadMark) b e = rw e (omega arith)
-sheet_most_lem (Err SheetRefusal.BadDistance) b e = rw e (omega arith)
+sheet_most_lem (Err r) b e = rw e (omega arith)
 
 -- the records of any sheet: what the text of their words reads as is those records
 pub sheet_survives :

@@ -1,5 +1,5 @@
 -- What the writer says of a step, the reader reads as that step's record. Assumes nothing.
-use Rattle.std.specs.Prelude.{ℕ, ◌≡◌, false, List, ◌∷◌, ◌++◌, eqb, Some}
+use Rattle.std.specs.Prelude.{Ok, ℕ, ◌≡◌, false, List, ◌∷◌, ◌++◌, eqb, Some}
 use Rattle.std.proofs.Common.{arith, sym, subst, ⊎_elim, eqb-true}
 use Rattle.std.proofs.Math.Path.{refl}
 use Rattle.rules.specs.Loops.{first_up_to}
@@ -7,7 +7,8 @@ use Rattle.rules.specs.LoopsLaws.{either}
 use Rattle.rules.specs.Record.{step_of_record, record_of_step}
 use Rattle.rules.proofs.RecordLaws.{StepFits, written_reads}
 use Rattle.rules.specs.Listing.{spelt}
-use Rattle.words.specs.Types.{Mode, Verdict, Step, Reading}
+use Rattle.words.specs.Types.{Mode, Step}
+use Rattle.words.specs.declared.scan.Line.{Line}
 use Rattle.words.specs.Grammar.{edge_at, invoke_word, at_word}
 use Rattle.words.specs.Scan.{at, blank, zeros, end_of, scan_next, scan_all, verdict_of}
 use Rattle.words.specs.Say.{Token, token_text, rest_text, read_value_tokens, other_tokens, first_word, more_tokens, step_text}
@@ -15,13 +16,13 @@ use Rattle.words.proofs.ScanLaws.{Path, path_place, path_bytes, path_read}
 
 -- a line that says a record
 pub record Says (text bytes : List ℕ) : Type 0 where
-  pub ends : verdict_of (end_of (scan_all blank text)) ≡ Verdict.Record
+  pub ends : verdict_of (end_of (scan_all blank text)) ≡ Ok Line.Record
   pub gives : (end_of (scan_all blank text)).bytes ≡ bytes
 
 -- a path of the grammar that ends where a line may end says the record that it has put together
 path_says :
     (t : Token) (ts : List Token) (bytes : List ℕ) → Path 0 (t ∷ ts)
-    → verdict_of (at Mode.Gap 0 (path_place 0 (t ∷ ts)) 0 (path_bytes 0 (t ∷ ts) zeros)) ≡ Verdict.Record
+    → verdict_of (at Mode.Gap 0 (path_place 0 (t ∷ ts)) 0 (path_bytes 0 (t ∷ ts) zeros)) ≡ Ok Line.Record
     → path_bytes 0 (t ∷ ts) zeros ≡ bytes
     → Says (token_text t ++ rest_text ts) bytes
 path_says t ts bytes p e b = record { ends = rw (path_read ts t 0 zeros p) e; gives = rw (path_read ts t 0 zeros p) b }

@@ -7,7 +7,6 @@ use mathlib.Core.List.{List, [], ◌∷◌, ◌++◌, append-nil, append_assoc}
 use Rattle.std.proofs.Math.ListN.{take, drop, take-append-drop}
 use Rattle.rules.specs.LoopsLaws.{and_left, and_right, either}
 use Rattle.rules.proofs.RecordLaws.{each_row_at}
-use Rattle.rules.specs.Types.{SheetAnswer}
 use Rattle.rules.specs.Record.{step_of_record}
 use Rattle.rules.specs.Sheet.{trailer_at, distance_of, sheet_answer, sheet_records, records_up_to}
 use Rattle.rules.proofs.SheetLaws.{taken_whole, taken_length, records_sixteens}

@@ -1,6 +1,6 @@
 -- The reader: a fold over the bytes of a line, and over the bytes of a text. Assumes nothing.
-use Rattle.std.specs.Prelude.{ℕ, ◌+◌, ◌*◌, ◌-◌, ◌/◌, ◌%◌, Bool, true, false, cond, ◌&&◌, ◌||◌, List, [], ◌∷◌, ◌++◌, leb, ltb, eqb, get_or, set}
-use Rattle.words.specs.Types.{Edge, Slot, Fault, Mode, Scan, Verdict, Stop, Reader}
+use Rattle.std.specs.Prelude.{Option, None, Some, Ok, Err, ℕ, ◌+◌, ◌*◌, ◌-◌, ◌/◌, ◌%◌, Bool, true, false, cond, ◌&&◌, ◌||◌, List, [], ◌∷◌, ◌++◌, leb, ltb, eqb, get_or, set}
+use Rattle.words.specs.Types.{Edge, Slot, Fault, Mode, Scan, Line, Verdict, Reader}
 use Rattle.words.specs.Grammar.{edge_count, edge_of, edge_at, slot_at, most_in, raw_node, may_end, said, slot_stored}
 
 -- ---- bytes
@@ -165,15 +165,15 @@ abbrev pub ends_at : Scan → Verdict
 ends_at s =
     cond
     (eqb s.node 0)
-    Verdict.Blank
-    (cond (is_record s) Verdict.Record (Verdict.Wrong Fault.MissingField))
+    (Ok Line.Blank)
+    (cond (is_record s) (Ok Line.Record) (Err Fault.MissingField))
 
 abbrev pub verdict_by : Mode → Scan → Verdict
 verdict_by Mode.Gap s = ends_at s
 verdict_by Mode.Word s = ends_at s
 verdict_by Mode.Number s = ends_at s
 verdict_by Mode.Comment s = ends_at s
-verdict_by (Mode.Wrong f) s = Verdict.Wrong f
+verdict_by (Mode.Wrong f) s = Err f
 
 -- of a line whose last word or number has ended
 abbrev pub verdict_of : Scan → Verdict
@@ -195,13 +195,13 @@ lines_most = 1000000
 
 abbrev pub reading : ℕ → ℕ → ℕ → Scan → Reader
 reading lines count length scan =
-    record { stop = Stop.Going; scan = scan; length = length; lines = lines; count = count }
+    record { stop = None; scan = scan; length = length; lines = lines; count = count }
 
 -- something is wrong: the line under way is line `lines + 1`
 abbrev pub stopped : Reader → Fault → Reader
 stopped r f =
     record {
-      stop = Stop.At f;
+      stop = Some f;
       scan = r.scan;
       length = r.length;
       lines = r.lines;
@@ -217,9 +217,9 @@ recorded r =
     (stopped r Fault.TooManyLines)
 
 abbrev pub judged : Reader → Verdict → Reader
-judged r Verdict.Blank = reading (r.lines + 1) r.count 0 blank
-judged r Verdict.Record = recorded r
-judged r (Verdict.Wrong f) = stopped r f
+judged r (Ok Line.Blank) = reading (r.lines + 1) r.count 0 blank
+judged r (Ok Line.Record) = recorded r
+judged r (Err f) = stopped r f
 
 abbrev pub line_ended : Reader → Reader
 line_ended r =
@@ -233,22 +233,22 @@ byte_read r b =
     (reading r.lines r.count (r.length + 1) (scan_next r.scan b))
     (stopped r Fault.LineTooLong)
 
-abbrev pub next_while : Stop → Reader → ℕ → Reader
-next_while Stop.Going r b = cond (eqb b 10) (line_ended r) (byte_read r b)
-next_while (Stop.At f) r b = r
+abbrev pub next_while : Option Fault → Reader → ℕ → Reader
+next_while None r b = cond (eqb b 10) (line_ended r) (byte_read r b)
+next_while (Some f) r b = r
 
 unfoldable pub reader_next : Reader → ℕ → Reader
 reader_next r b = next_while r.stop r b
 
 -- whether this byte ends a line that says a record, and there is room for it
-abbrev pub is_going : Stop → Bool
-is_going Stop.Going = true
-is_going (Stop.At f) = false
+abbrev pub is_going : Option Fault → Bool
+is_going None = true
+is_going (Some f) = false
 
 abbrev pub says_record : Verdict → Bool
-says_record Verdict.Blank = false
-says_record Verdict.Record = true
-says_record (Verdict.Wrong f) = false
+says_record (Ok Line.Blank) = false
+says_record (Ok Line.Record) = true
+says_record (Err f) = false
 
 unfoldable pub gives_record : Reader → ℕ → Bool
 gives_record r b =

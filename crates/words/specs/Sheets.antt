@@ -1,7 +1,7 @@
 -- Lists of records in words, the sheet that they make, and what passwrite answers. Assumes nothing.
-use Rattle.std.specs.Prelude.{ℕ, ◌+◌, List, [], ◌∷◌, ◌++◌, Bool, cond, ◌&&◌, ltb, eqb, length, get_or, drop}
+use Rattle.std.specs.Prelude.{Option, None, Some, ℕ, ◌+◌, List, [], ◌∷◌, ◌++◌, Bool, cond, ◌&&◌, ltb, eqb, length, get_or, drop}
 use Rattle.rules.specs.Record.{long_bytes}
-use Rattle.words.specs.Types.{Stop}
+use Rattle.words.specs.Types.{Fault}
 use Rattle.words.specs.Scan.{Read, text_read}
 use Rattle.words.specs.Say.{text_bytes}
 use Rattle.words.specs.Faults.{line_behind, fault_line}
@@ -16,9 +16,9 @@ sheet_of records = records ++ trailer_of (length records)
 
 -- ---- what passwrite answers: a sheet, or the first bad line
 
-abbrev pub answer_by : Stop → Read → List ℕ → List ℕ
-answer_by Stop.Going t text = sheet_of t.records
-answer_by (Stop.At f) t text = fault_line (t.reader.lines + 1) f (line_behind t.reader.lines text)
+abbrev pub answer_by : Option Fault → Read → List ℕ → List ℕ
+answer_by None t text = sheet_of t.records
+answer_by (Some f) t text = fault_line (t.reader.lines + 1) f (line_behind t.reader.lines text)
 
 unfoldable pub answer_text : List ℕ → List ℕ
 answer_text text = answer_by (text_read text).reader.stop (text_read text) text

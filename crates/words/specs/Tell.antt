@@ -2,7 +2,8 @@
 use Rattle.std.specs.Prelude.{ℕ, zero, suc, ◌+◌, ◌/◌, List, [], ◌∷◌, ◌++◌, length, get_or, Ok, Err}
 use Prim.Native.String.{String}
 use Rattle.rules.specs.Types.{Answer}
-use Rattle.rules.specs.Types.{SheetAnswer, SheetRefusal}
+use Rattle.rules.specs.declared.steps.SheetRefusal.{SheetRefusal}
+use Rattle.rules.specs.Types.{SheetAnswer}
 use Rattle.rules.specs.Answers.{refusal_number}
 use Rattle.rules.specs.Record.{step_record_of}
 use Rattle.rules.specs.Sheet.{sheet_answer, sheet_number, sheet_records, record_at}
@@ -94,10 +95,7 @@ refused_sheet a =
 
 abbrev pub sheet_by : SheetAnswer → List ℕ → List ℕ
 sheet_by (Ok u) text = text
-sheet_by (Err SheetRefusal.TooLong) text = refused_sheet (Err SheetRefusal.TooLong)
-sheet_by (Err SheetRefusal.TooShort) text = refused_sheet (Err SheetRefusal.TooShort)
-sheet_by (Err SheetRefusal.BadMark) text = refused_sheet (Err SheetRefusal.BadMark)
-sheet_by (Err SheetRefusal.BadDistance) text = refused_sheet (Err SheetRefusal.BadDistance)
+sheet_by (Err r) text = refused_sheet (Err r)
 
 unfoldable pub sheet_told : List ℕ → List ℕ
 sheet_told sheet = sheet_by (sheet_answer sheet) (told_up_to (sheet_records sheet) (length (sheet_records sheet) / 16))

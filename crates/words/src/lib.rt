@@ -5,3 +5,4 @@
 pub mod rows;
 pub mod scan;
 pub mod tokens;
+pub mod vocabulary;

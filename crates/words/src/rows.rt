@@ -1,6 +1,6 @@
 // The rows of the two tables of the grammar.
 
-// How many edges there are; as a row it says that there is none.
+// How many edges there are.
 pub const EDGE_COUNT: usize = 31;
 
 // The place of `raw`.

@@ -39,25 +39,17 @@ pub struct Scan {
     pub bytes: [u8; 16],
 }
 
-// What a whole line says: nothing, a record, or something wrong.
+// What a whole line says, if nothing is wrong with it: nothing, or a record.
 #[derive(Clone, Copy)]
-pub enum Verdict {
+pub enum Line {
     Blank,
     Record,
-    Wrong(Fault),
 }
 
-// Whether reading goes on, or stopped at something wrong.
-#[derive(Clone, Copy)]
-pub enum Stop {
-    Going,
-    At(Fault),
-}
-
-// A text under way: the line under way and its bytes so far, the lines that have ended, and the records so far.
+// A text under way: what reading stopped at, if something is wrong, the line under way and its bytes so far, the lines that have ended, and the records so far.
 #[derive(Clone, Copy)]
 pub struct Reader {
-    pub stop: Stop,
+    pub stop: Option<Fault>,
     pub scan: Scan,
     pub length: u32,
     pub lines: u32,

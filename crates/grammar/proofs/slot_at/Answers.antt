@@ -1,10 +1,10 @@
--- The columns make the row; past the last place there is none. Assumes nothing.
-use Rattle.std.proofs.Common.{rules}
-use Rattle.grammar.proofs.Rows.{slot_made, slot_within, slot_past}
+use Rattle.std.proofs.Common.{◌≡◌, ◌≤◌, ◌∙◌, sym, subst, ap, arith, Option, unwrap_or}
+use Rattle.words.specs.declared.rows.Slot.{Slot}
+use Rattle.words.specs.Grammar.{none, slot_at}
+use Rattle.grammar.proofs.Rows.{slot_within}
 use Rattle.grammar.proofs.slot_at.Goals as goal
 
-pub returns-then-node-lt31 : goal.returns-then-node-lt31
-returns-then-node-lt31 c = (slot_made c.args.node, slot_within c.args.node (search rules))
-
 pub returns : goal.returns
-returns c = (slot_past c.args.node (search rules), search rules)
+returns c =
+    let e : c.unwrap_or.result ≡ slot_at c.args.node = c.unwrap_or.ensures ∙ ap (λ (o : Option Slot). unwrap_or o none) c.copied.ensures ∙ c.get.ensures.lookup.4 (omega arith) none in
+    (e, subst (λ (s : Slot). s.field ≤ 12) (sym e) (slot_within c.args.node))

@@ -9,15 +9,15 @@ pub put_text-requires : goal.put_text-requires
 put_text-requires c =
     let g : gives_record c.args.r c.args.b ≡ true = rw c.gives_record.ensures at c.if-gives_record.true in
     let k : c.args.r.count < 4095 = gives_room c.args.r c.args.b g in
-    let l : length c.end_of-s.result.bytes ≡ 16 = search rules in
+    let l : length c.end_of.result.bytes ≡ 16 = search rules in
     omega arith
 
 pub returns-then-gives_record : goal.returns-then-gives_record
 unfolding given
 returns-then-gives_record c =
     let g : gives_record c.args.r c.args.b ≡ true = rw c.gives_record.ensures at c.if-gives_record.true in
-    let l : length c.end_of-s.result.bytes ≡ 16 = search rules in (
-      rw (g, ← c.end_of-s.ensures) c.put_text.ensures,
+    let l : length c.end_of.result.bytes ≡ 16 = search rules in (
+      rw (g, ← c.end_of.ensures) c.put_text.ensures,
       rw (next_count c.args.r c.args.b, g) (omega arith),
     )
 

@@ -1,6 +1,7 @@
 -- That the part lies within the bytes follows from the sheet being taken. Assumes nothing.
 use Rattle.std.proofs.Common.{◌≡◌, sym, refl, List, ℕ, [], Ok, Err}
-use Rattle.rules.specs.Types.{SheetAnswer, SheetRefusal}
+use Rattle.rules.specs.declared.steps.SheetRefusal.{SheetRefusal}
+use Rattle.rules.specs.Types.{SheetAnswer}
 use Rattle.rules.proofs.SheetLaws.{taken_whole, taken_records}
 use Rattle.rules.specs.Sheet.{record_part, sheet_records}
 use Rattle.sheet.proofs.sheet_records.Goals as goal
@@ -8,10 +9,7 @@ use Rattle.sheet.proofs.sheet_records.Goals as goal
 -- a sheet that is not taken has no records
 none : (a : SheetAnswer) (b : List ℕ) → (a ≡ Ok tt → ⊥) → record_part a b ≡ []
 none (Ok u) b h = absurd (h refl)
-none (Err SheetRefusal.TooLong) b h = refl
-none (Err SheetRefusal.TooShort) b h = refl
-none (Err SheetRefusal.BadMark) b h = refl
-none (Err SheetRefusal.BadDistance) b h = refl
+none (Err r) b h = refl
 
 pub returns-in_default : goal.returns-in_default
 unfolding sheet_records

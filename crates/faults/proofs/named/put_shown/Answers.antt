@@ -1,21 +1,19 @@
--- Each turn shows one byte more. Assumes nothing.
-use Rattle.std.proofs.Common.{◌≡◌, ◌+◌, false, drop, rules, arith}
-use Rattle.words.specs.Faults.{no_word}
-use Rattle.faults.proofs.Finding.{shows_more, shows_over, shows_twenty}
+-- All bytes of the word have been put. Assumes nothing.
+use Rattle.std.proofs.Common.{◌≡◌, sym, map, take, drop, length, length-drop, ◌-◌, arith}
+use Rattle.std.proofs.Math.Nat.{min_comm}
+use Rattle.std.proofs.lemmas.List.{take_all, take_min}
+use Rattle.words.specs.Faults.{shown_byte, shown_up_to}
+use Rattle.faults.proofs.Finding.{shown_word, shown_length}
 use Rattle.faults.proofs.named.put_shown.Goals as goal
-
-pub returns-then-no_word : goal.returns-then-no_word
-returns-then-no_word c =
-    (shows_over c.args.out.now c.loop-k.out c.args.at c.args.line.now c.args.from c.loop-k.k (rw (← c.no_word.ensures) c.if-no_word.true) c.loop-k.invariant.0, omega arith)
-
-pub loop-k-preserved : goal.loop-k-preserved
-loop-k-preserved c =
-    let here : no_word (drop (c.args.from + c.loop-k.k) c.args.line.now) ≡ false = rw (← c.no_word.ensures) c.if-no_word.false in (
-      rw c.shown_byte-b.ensures (shows_more c.args.out.now c.loop-k.out c.args.at c.args.line.now c.args.from c.loop-k.k (search rules) (omega arith) (search rules) here c.loop-k.invariant.0),
-      search rules,
-    )
 
 pub returns : goal.returns
 returns c =
-    let e : c.loop-k.k ≡ 20 = omega arith in
-    (rw e (shows_twenty c.args.out.now c.loop-k.out c.args.at c.args.line.now c.args.from (rw e at c.loop-k.invariant.0)), omega arith)
+    let w = c.word_of-b-items.result.now in
+    let all : take c.loop-b.b-index w ≡ w = take_all c.loop-b.b-index w (omega arith) in
+    let from = c.args.from in
+    let line = c.args.line.now in
+    let rest : take (length line - from) (drop from line) ≡ drop from line = take_all (length line - from) (drop from line) (rw (length-drop from line) (omega arith)) in
+    let word : map shown_byte w ≡ shown_up_to 20 (drop from line) =
+    rw (c.word_of-b-items.ensures, c.min.ensures, min_comm (length (take (length line - from) (drop from line))) 20, take_min 20 (take (length line - from) (drop from line)), rest) (sym (shown_word 20 (drop from line))) in
+    let puts = rw (all, word) at c.loop-b.invariant in
+    (puts, let e = puts.ends in omega (arith, shown_length 20 (drop c.args.from c.args.line.now)))

@@ -1,10 +1,8 @@
--- The loop carries the bytes that have been put, and what is left to show. Assumes nothing.
-use Rattle.std.proofs.Common.{◌-◌, ◌≤◌}
-use Rattle.faults.proofs.Finding.{Shows}
+-- The loop carries the bytes of the word so far, as they are shown. Assumes nothing.
+use Rattle.std.proofs.Common.{map, take}
+use Rattle.buffer.specs.Text.{Puts}
+use Rattle.words.specs.Faults.{shown_byte}
 use Rattle.faults.proofs.named.put_shown.Given as goal
 
-abbrev pub invariant-loop-k : goal.invariant-loop-k
-invariant-loop-k l = Shows l.fn.out l.at l.line l.from l.k l.out × (l.k ≤ 20)
-
-abbrev pub decreases-loop-k : goal.decreases-loop-k
-decreases-loop-k l = 20 - l.k
+abbrev pub invariant-loop-b : goal.invariant-loop-b
+invariant-loop-b l = Puts l.fn.out l.at (map shown_byte (take l.b-index l.b-items)) l.out l.next

@@ -1,0 +1,2 @@
+-- Laws that the proofs of scanning cite. Assumes nothing.
+pub mod Stored
