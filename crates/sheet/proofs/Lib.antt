@@ -1,2 +1,1 @@
 -- Laws that the proofs of sheet cite. Assumes nothing.
-pub mod Sixteen

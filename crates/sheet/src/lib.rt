@@ -5,14 +5,7 @@
 ghost use Rattle.std.specs.Prelude.{◌+◌, ◌*◌, ◌≤◌, ◌≡◌, length};
 ghost use Rattle.rules.specs.Sheet.{distance_of, has_mark, sheet_answer, sheet_number, sheet_records, record_at};
 
-use rules::steps::SheetAnswer;
-
-// Four bytes, the lowest first.
-fn long(b0: u8, b1: u8, b2: u8, b3: u8) -> usize
-    ensures { result ≡ b0 + 256 * b1 + 65536 * b2 + 16777216 * b3 }
-{
-    (b0 as usize) + 256 * (b1 as usize) + 65536 * (b2 as usize) + 16777216 * (b3 as usize)
-}
+use rules::steps::{SheetAnswer, SheetRefusal};
 
 // The distance from the trailer's start back to the first record.
 fn distance(b: &[u8]) -> usize
@@ -20,7 +13,7 @@ fn distance(b: &[u8]) -> usize
     ensures { result ≡ distance_of b.now }
 {
     let at = b.len() - 8;
-    long(b[at], b[at + 1], b[at + 2], b[at + 3])
+    u32::from_le_bytes([b[at], b[at + 1], b[at + 2], b[at + 3]]) as usize
 }
 
 // The bytes "PASS".
@@ -28,8 +21,7 @@ fn has_mark(b: &[u8]) -> bool
     requires { 8 ≤ length b.now }
     ensures { result ≡ has_mark b.now }
 {
-    let at = b.len() - 8;
-    (b[at + 4] == 80) & (b[at + 5] == 65) & (b[at + 6] == 83) & (b[at + 7] == 83)
+    matches!(b, [.., b'P', b'A', b'S', b'S'])
 }
 
 // The four refusals of a sheet, in their order.
@@ -70,25 +62,9 @@ pub fn record_at(part: &[u8], i: usize) -> [u8; 16]
     requires { 16 * i + 16 ≤ length part.now }
     ensures { result ≡ record_at part.now i }
 {
-    let a = 16 * i;
-    [
-        part[a],
-        part[a + 1],
-        part[a + 2],
-        part[a + 3],
-        part[a + 4],
-        part[a + 5],
-        part[a + 6],
-        part[a + 7],
-        part[a + 8],
-        part[a + 9],
-        part[a + 10],
-        part[a + 11],
-        part[a + 12],
-        part[a + 13],
-        part[a + 14],
-        part[a + 15],
-    ]
+    let mut record = [0; 16];
+    record.copy_from_slice(&part[16 * i..16 * i + 16]);
+    record
 }
 
 // The number of a sheet's answer; a sheet that is taken has 0.

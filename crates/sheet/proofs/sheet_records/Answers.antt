@@ -13,16 +13,16 @@ none (Err r) b h = refl
 
 pub returns-in_default : goal.returns-in_default
 unfolding sheet_records
-returns-in_default c = rw (← c.sheet_answer.ensures) (sym (none c.sheet_answer.result c.args.b.now c.in_default.not-Taken))
+returns-in_default c = rw (← c.sheet_answer.ensures) (sym (none c.sheet_answer.result c.args.b.now (c.in_default.not-Ok tt)))
 
 pub overflow_sub-to : goal.overflow_sub-to
-overflow_sub-to c = (taken_whole c.args.b.now (sym c.in-Taken.ensures)).least
+overflow_sub-to c = (taken_whole c.args.b.now (sym c.in-Ok.ensures)).least
 
 pub distance-requires : goal.distance-requires
-distance-requires c = (taken_whole c.args.b.now (sym c.in-Taken.ensures)).least
+distance-requires c = (taken_whole c.args.b.now (sym c.in-Ok.ensures)).least
 
 pub overflow_sub-from : goal.overflow_sub-from
-overflow_sub-from c = rw c.distance.ensures (taken_whole c.args.b.now (sym c.in-Taken.ensures)).within
+overflow_sub-from c = rw c.distance.ensures (taken_whole c.args.b.now (sym c.in-Ok.ensures)).within
 
 pub returns : goal.returns
-returns c = rw c.distance.ensures (taken_records c.args.b.now (sym c.in-Taken.ensures))
+returns c = rw c.distance.ensures (taken_records c.args.b.now (sym c.in-Ok.ensures))
