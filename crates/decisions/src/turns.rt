@@ -14,7 +14,7 @@ fn counted(v: u64, b: bool) -> u64
     requires { v ≤ 1000 }
     ensures { result ≡ v + one_if b }
 {
-    if b { v + 1 } else { v }
+    v + u64::from(b)
 }
 
 // One visit more is counted where b says so.
@@ -35,19 +35,18 @@ pub fn trip_places(trip: Trip, slot: usize) -> Places
 {
     match trip {
         Trip::Nowhere => slot_places(0, slot),
-        Trip::Sweep(site) => slot_places(site, slot),
-        Trip::Crash(site) => slot_places(site, slot),
+        Trip::Sweep(site) | Trip::Crash(site) => slot_places(site, slot),
     }
 }
 
 fn slot_places(site: u8, slot: usize) -> Places
     ensures { result ≡ slot_places site slot }
 {
-    let s = (site % 8) as usize;
+    let site = usize::from(site % 8);
     Places {
-        site: s,
-        slot: slot,
-        bank: s,
+        site,
+        slot,
+        bank: site,
         message: 0,
     }
 }
@@ -70,9 +69,8 @@ pub fn turn_answer(trip: Trip, answer: Answer, seen: Seen) -> Answer
     ensures { result ≡ turn_answer trip answer seen }
 {
     match trip {
-        Trip::Nowhere => answer,
         Trip::Sweep(_) => count_one(answer, is_swept(seen)),
-        Trip::Crash(_) => answer,
+        Trip::Nowhere | Trip::Crash(_) => answer,
     }
 }
 
@@ -91,7 +89,6 @@ pub fn turn_count(trip: Trip, answer: Answer) -> usize
 {
     match trip {
         Trip::Nowhere => 0,
-        Trip::Sweep(_) => sixteen_if_accepted(answer),
-        Trip::Crash(_) => sixteen_if_accepted(answer),
+        Trip::Sweep(_) | Trip::Crash(_) => sixteen_if_accepted(answer),
     }
 }

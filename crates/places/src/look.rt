@@ -1,6 +1,6 @@
 // Where a step looks: its message slot, its passage slot, its site, and the site whose objects it sees.
 // A remainder makes each place one that exists; a field out of range is refused by 2 before what was seen matters.
-ghost use Rattle.std.specs.Prelude.{◌+◌, ◌<◌, min, ◌≡◌, cond, ◌||◌};
+ghost use Rattle.std.specs.Prelude.{◌+◌, ◌<◌, ◌≡◌, cond, ◌||◌};
 ghost use Rattle.rules.specs.Loops.{first_next};
 ghost use Rattle.rules.specs.Parts.{is_empty};
 ghost use Rattle.rules.specs.Machine.{looks, looks_home, looks_site, look_of, mail_place, slot_place, site_place, body_bank, bank_place, is_message_of};
@@ -16,7 +16,7 @@ fn looks_home(mail: MailAt, h: u16) -> Look
     ensures { result ≡ looks_home mail h }
 {
     Look {
-        mail: mail,
+        mail,
         slot: SlotAt::Given(h),
         site: SiteAt::Home,
         trip: Trip::Nowhere,
@@ -31,7 +31,7 @@ pub fn looks_site(site: u8, trip: Trip) -> Look
         mail: MailAt::Nowhere,
         slot: SlotAt::Given(0),
         site: SiteAt::Given(site),
-        trip: trip,
+        trip,
     }
 }
 
@@ -52,7 +52,7 @@ pub fn looks_both(mail: MailAt, h: u16, site: u8) -> Look
     ensures { result ≡ looks mail (SlotAt.Given h) (SiteAt.Given site) Trip.Nowhere }
 {
     Look {
-        mail: mail,
+        mail,
         slot: SlotAt::Given(h),
         site: SiteAt::Given(site),
         trip: Trip::Nowhere,
@@ -64,37 +64,19 @@ pub fn look_of(step: Step) -> Look
     ensures { result ≡ look_of step }
 {
     match step {
-        Step::Tick { site, n: _ } => looks_site(site, Trip::Nowhere),
-        Step::Begin {
-            home,
-            slot,
-            quiesce: _,
-            release: _,
-        } => looks_both(MailAt::Nowhere, slot as u16, home),
-        Step::Invoke {
-            handle,
-            site,
-            write: _,
-            object: _,
-            value: _,
-        } => looks_both(MailAt::Empty, handle, site),
-        Step::Refresh {
-            handle,
-            quiesce: _,
-            release: _,
-        } => looks_home(MailAt::Nowhere, handle),
-        Step::Terminate { handle } => looks_home(MailAt::Nowhere, handle),
-        Step::Prepare { handle } => looks_home(MailAt::Nowhere, handle),
-        Step::Ask { handle, site: _ } => looks_home(MailAt::Empty, handle),
-        Step::Close { handle } => looks_home(MailAt::Nowhere, handle),
-        Step::Tell { handle, site: _ } => looks_home(MailAt::Empty, handle),
-        Step::Abort { handle } => looks_home(MailAt::Nowhere, handle),
-        Step::Deliver { message } => looks_mail(message),
-        Step::Drop { message } => looks_mail(message),
+        Step::Tick { site, .. } | Step::Recover { site } => looks_site(site, Trip::Nowhere),
         Step::Sweep { site } => looks_site(site, Trip::Sweep(site)),
         Step::Crash { site } => looks_site(site, Trip::Crash(site)),
-        Step::Recover { site } => looks_site(site, Trip::Nowhere),
-        Step::Retire { handle } => looks_home(MailAt::Nowhere, handle),
+        Step::Begin { home, slot, .. } => looks_both(MailAt::Nowhere, u16::from(slot), home),
+        Step::Invoke { handle, site, .. } => looks_both(MailAt::Empty, handle, site),
+        Step::Refresh { handle, .. }
+        | Step::Terminate { handle }
+        | Step::Prepare { handle }
+        | Step::Close { handle }
+        | Step::Abort { handle }
+        | Step::Retire { handle } => looks_home(MailAt::Nowhere, handle),
+        Step::Ask { handle, .. } | Step::Tell { handle, .. } => looks_home(MailAt::Empty, handle),
+        Step::Deliver { message } | Step::Drop { message } => looks_mail(message),
     }
 }
 
@@ -111,30 +93,24 @@ pub fn first_next(found: usize, i: usize, m: Message) -> usize
     requires { i < 32 }
     ensures { result ≡ first_next found i (is_empty m.body) }
 {
-    let body = m.body;
-    let next = here_or_next(i, is_empty(body));
-    if found == i { next } else { found }
+    if found == i {
+        here_or_next(i, is_empty(m.body))
+    } else {
+        found
+    }
 }
 
 pub fn is_message_of(slot: usize, m: Message) -> bool
     ensures { result ≡ is_message_of slot m }
 {
-    let body = m.body;
-    !is_empty(body) & ((m.handle % 16) as usize == slot)
+    !is_empty(m.body) & (usize::from(m.handle % 16) == slot)
 }
 
 // One step of the search for what remains of a passage slot: so far, or this message of it, or this visit of it.
 pub fn rest_next(rest: bool, slot: usize, m: Message, v: Visit) -> bool
     ensures { result ≡ (rest || (is_message_of slot m || v.there)) }
 {
-    let there = v.there;
-    rest | (is_message_of(slot, m) | there)
-}
-
-fn at_most(a: usize, b: usize) -> usize
-    ensures { result ≡ min a b }
-{
-    if a < b { a } else { b }
+    rest | is_message_of(slot, m) | v.there
 }
 
 // The message slot, where e is the lowest empty one.
@@ -143,8 +119,8 @@ pub fn mail_place(at: MailAt, e: usize) -> usize
 {
     match at {
         MailAt::Nowhere => 0,
-        MailAt::Given(m) => (m % 32) as usize,
-        MailAt::Empty => at_most(e, MESSAGE_MOST as usize),
+        MailAt::Given(m) => usize::from(m % 32),
+        MailAt::Empty => e.min(usize::from(MESSAGE_MOST)),
     }
 }
 
@@ -152,8 +128,8 @@ pub fn slot_place(at: SlotAt, m: Message) -> usize
     ensures { (result ≡ slot_place at m) × (result < 16) }
 {
     match at {
-        SlotAt::Given(h) => (h % 16) as usize,
-        SlotAt::Mail => (m.handle % 16) as usize,
+        SlotAt::Given(h) => usize::from(h % 16),
+        SlotAt::Mail => usize::from(m.handle % 16),
     }
 }
 
@@ -161,9 +137,9 @@ pub fn site_place(at: SiteAt, m: Message, p: Passage) -> usize
     ensures { (result ≡ site_place at m p) × (result < 8) }
 {
     match at {
-        SiteAt::Given(s) => (s % 8) as usize,
-        SiteAt::Home => (p.home % 8) as usize,
-        SiteAt::Mail => (m.destination % 8) as usize,
+        SiteAt::Given(s) => usize::from(s % 8),
+        SiteAt::Home => usize::from(p.home % 8),
+        SiteAt::Mail => usize::from(m.destination % 8),
     }
 }
 
@@ -173,19 +149,12 @@ fn body_bank(body: Body, s: usize) -> usize
     ensures { (result ≡ body_bank body s) × (result < 8) }
 {
     match body {
-        Body::Empty => s,
-        Body::Call(call) => (call.object / 4 % 8) as usize,
-        Body::PhaseOne {
-            number: _,
-            asked: _,
-        } => s,
-        Body::PhaseTwo { number: _, told: _ } => s,
-        Body::Answer {
-            number: _,
-            received: _,
-            quiesce: _,
-        } => s,
-        Body::Reply { value: _ } => s,
+        Body::Call(call) => usize::from(call.object / 4 % 8),
+        Body::Empty
+        | Body::PhaseOne { .. }
+        | Body::PhaseTwo { .. }
+        | Body::Answer { .. }
+        | Body::Reply { .. } => s,
     }
 }
 
@@ -194,10 +163,8 @@ pub fn bank_place(at: SiteAt, m: Message, s: usize) -> usize
     requires { s < 8 }
     ensures { (result ≡ bank_place at m s) × (result < 8) }
 {
-    let body = m.body;
     match at {
-        SiteAt::Given(_) => s,
-        SiteAt::Home => s,
-        SiteAt::Mail => body_bank(body, s),
+        SiteAt::Given(_) | SiteAt::Home => s,
+        SiteAt::Mail => body_bank(m.body, s),
     }
 }

@@ -15,20 +15,11 @@ pub fn start() -> Tables
     ensures { result ≡ start }
 {
     let site = Site { clock: 0, up: true };
-    let object = unheld(0);
-    let passage = free_slot(0);
-    let visit = no_visit();
-    let message = no_message();
-    let sites = [site; 8];
-    let objects = [object; 32];
-    let passages = [passage; 16];
-    let visits = [visit; 128];
-    let messages = [message; 32];
     Tables {
-        sites: sites,
-        objects: objects,
-        passages: passages,
-        visits: visits,
-        messages: messages,
+        sites: [site; 8],
+        objects: [unheld(0); 32],
+        passages: [free_slot(0); 16],
+        visits: [no_visit(); 128],
+        messages: [no_message(); 32],
     }
 }

@@ -31,8 +31,7 @@ fn trip_site(trip: Trip) -> u8
 {
     match trip {
         Trip::Nowhere => 0,
-        Trip::Sweep(site) => site,
-        Trip::Crash(site) => site,
+        Trip::Sweep(site) | Trip::Crash(site) => site,
     }
 }
 
@@ -41,8 +40,7 @@ fn slot_look(trip: Trip, slot: usize) -> Look
     requires { slot < 16 }
     ensures { result ≡ slot_look trip slot }
 {
-    let site = trip_site(trip);
-    looks_both(MailAt::Nowhere, slot as u16, site)
+    looks_both(MailAt::Nowhere, slot as u16, trip_site(trip))
 }
 
 // Where a turn looks, if the first one looks so.
@@ -50,11 +48,10 @@ pub fn turn_look(look: Look, turn: usize) -> Look
     requires { turn ≤ 16 }
     ensures { result ≡ turn_look look turn }
 {
-    let trip = look.trip;
     if turn == 0 {
         look
     } else {
-        slot_look(trip, turn - 1)
+        slot_look(look.trip, turn - 1)
     }
 }
 
@@ -64,37 +61,19 @@ fn step_scan(step: Step) -> usize
     ensures { result ≡ step_scan step }
 {
     match step {
-        Step::Tick { site: _, n: _ } => 0,
-        Step::Begin {
-            home: _,
-            slot: _,
-            quiesce: _,
-            release: _,
-        } => 0,
-        Step::Invoke {
-            handle: _,
-            site: _,
-            write: _,
-            object: _,
-            value: _,
-        } => 32,
-        Step::Refresh {
-            handle: _,
-            quiesce: _,
-            release: _,
-        } => 0,
-        Step::Terminate { handle: _ } => 0,
-        Step::Prepare { handle: _ } => 0,
-        Step::Ask { handle: _, site: _ } => 32,
-        Step::Close { handle: _ } => 0,
-        Step::Tell { handle: _, site: _ } => 32,
-        Step::Abort { handle: _ } => 0,
-        Step::Deliver { message: _ } => 0,
-        Step::Drop { message: _ } => 0,
-        Step::Sweep { site: _ } => 0,
-        Step::Crash { site: _ } => 0,
-        Step::Recover { site: _ } => 0,
-        Step::Retire { handle: _ } => 32,
+        Step::Invoke { .. } | Step::Ask { .. } | Step::Tell { .. } | Step::Retire { .. } => 32,
+        Step::Tick { .. }
+        | Step::Begin { .. }
+        | Step::Refresh { .. }
+        | Step::Terminate { .. }
+        | Step::Prepare { .. }
+        | Step::Close { .. }
+        | Step::Abort { .. }
+        | Step::Deliver { .. }
+        | Step::Drop { .. }
+        | Step::Sweep { .. }
+        | Step::Crash { .. }
+        | Step::Recover { .. } => 0,
     }
 }
 
@@ -127,11 +106,9 @@ fn decide_slot(trip: Trip, slot: usize, before: Answer, seen: Seen) -> Decision
     requires { (slot < 16) × (trip_value trip before ≤ 1000) }
     ensures { result ≡ slot_done trip slot before seen }
 {
-    let answer = turn_answer(trip, before, seen);
-    let left = turn_seen(trip, slot, seen);
     Decision {
-        answer: answer,
-        left: left,
+        answer: turn_answer(trip, before, seen),
+        left: turn_seen(trip, slot, seen),
     }
 }
 
