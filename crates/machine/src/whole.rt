@@ -18,7 +18,7 @@ use places::look::{
 use records::read_record;
 use rules::looking::{Found, Look, Places, Seen, Trip};
 use rules::outcomes::{Answer, Outcome, Refusal};
-use rules::steps::{Reading, Step};
+use rules::steps::Step;
 use rules::tables::{Message, Tables, Visit};
 
 // The lowest empty message slot, or 32.
