@@ -18,7 +18,7 @@ use Rattle.clearing.specs.declared.OwnRefusal.{OwnRefusal}
 use Rattle.clearing.specs.declared.Verdict.{Verdict}
 use Rattle.clearing.specs.declared.Cleared.{Cleared}
 use Rattle.clearing.specs.Question.{listed}
-use Rattle.clearing.specs.Clearing.{own_number, cleared_of}
+use Rattle.clearing.specs.Clearing.{own_number, is_begun, cleared_of}
 
 -- ---- an object, by the line that the lists have for it; "a miss: its number"
 
@@ -51,7 +51,7 @@ module _ (station company objects : List ℕ) where
   -- "for a read " for " and the looked-up line": the refused step was a read's if not every object of the list was read
   unfoldable pub read_told : Cleared → List ℕ
   read_told c =
-      cond (c.begun && ltb c.read (length objects)) (text_bytes " for " ++ name_for station company (listed objects c.read)) []
+      cond (is_begun c && ltb c.read (length objects)) (text_bytes " for " ++ name_for station company (listed objects c.read)) []
 
   -- "the refused step in passread's words, " refused N PHRASE""
   unfoldable pub refused_step_told : Step → Refusal → Cleared → List ℕ
