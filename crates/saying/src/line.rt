@@ -1,50 +1,194 @@
 // The line of a record.
-ghost use Rattle.std.specs.Prelude.{◌+◌, ◌*◌, ◌≤◌, ◌<◌, [], ◌∷◌, map, ◌≡◌, length, take};
+ghost use Rattle.std.specs.Prelude.{◌+◌, ◌≤◌, ◌<◌, [], ◌∷◌, ◌++◌, ◌≡◌, length};
 ghost use Rattle.buffer.specs.Text.{Puts};
-ghost use Rattle.words.specs.Say.{piece_token, token_text, rest_text, step_text, hex_digit, hex_text, raw_text, record_text};
+ghost use Rattle.words.specs.Grammar.{invoke_word, at_word};
+ghost use Rattle.words.specs.declared.tokens.Token.{Token};
+ghost use Rattle.words.specs.Say.{word_text, rest_text, operation_tokens, step_text, hex_digit, hex_text, raw_text, record_text};
 
-use crate::tokens::tokens_of;
-use buffer::{put_byte, put_digits, put_letters};
+use crate::tokens::put_tokens;
+use buffer::{put_byte, put_letters};
 use records::read_record;
 use rules::steps::{Reading, Step};
-use words::tokens::Piece;
+use words::tokens::Token;
+use words::vocabulary::{
+    ABORT, ASK, AT, BEGIN, BY, CLOSE, CRASH, DELIVER, DROP, HOME, INVOKE, OBJECT, OPERATION,
+    PREPARE, QUIESCE, RAW, READ, RECOVER, REFRESH, RELEASE, RETIRE, SLOT, SWEEP, TELL, TERMINATE,
+    TICK, VALUE, WRITE,
+};
 
-// A space, and a word or a number.
-fn put_token(out: &mut [u8], at: usize, t: Piece) -> usize
-    requires { at + 11 ≤ length out.old }
-    ensures { Puts out.old at (32 ∷ token_text (piece_token t)) out.new result }
+// invoke: a read's value is said where it is not 0.
+#[tactic(auto, unfolding(words::specs::Say::step_text))]
+fn put_invoke(
+    out: &mut [u8],
+    at: usize,
+    handle: u16,
+    site: u8,
+    write: u8,
+    object: u8,
+    value: u32,
+) -> usize
+    requires { at + 108 ≤ length out.old }
+    ensures { Puts out.old at (word_text invoke_word ++ rest_text (Token.Number handle ∷ Token.Word at_word ∷ Token.Number site ∷ operation_tokens write object value)) out.new result }
 {
-    let from = put_byte(out, at, b' ');
-    if t.word {
-        return put_letters(out, from, 9, t.value);
+    match (write, value) {
+        (1, _) => put_tokens(
+            out,
+            at,
+            INVOKE,
+            &[
+                Token::Number(handle as u64),
+                Token::Word(AT),
+                Token::Number(site as u64),
+                Token::Word(WRITE),
+                Token::Word(OBJECT),
+                Token::Number(object as u64),
+                Token::Word(VALUE),
+                Token::Number(value as u64),
+            ],
+        ),
+        (0, 0) => put_tokens(
+            out,
+            at,
+            INVOKE,
+            &[
+                Token::Number(handle as u64),
+                Token::Word(AT),
+                Token::Number(site as u64),
+                Token::Word(READ),
+                Token::Word(OBJECT),
+                Token::Number(object as u64),
+            ],
+        ),
+        (0, _) => put_tokens(
+            out,
+            at,
+            INVOKE,
+            &[
+                Token::Number(handle as u64),
+                Token::Word(AT),
+                Token::Number(site as u64),
+                Token::Word(READ),
+                Token::Word(OBJECT),
+                Token::Number(object as u64),
+                Token::Word(VALUE),
+                Token::Number(value as u64),
+            ],
+        ),
+        _ => put_tokens(
+            out,
+            at,
+            INVOKE,
+            &[
+                Token::Number(handle as u64),
+                Token::Word(AT),
+                Token::Number(site as u64),
+                Token::Word(OPERATION),
+                Token::Number(write as u64),
+                Token::Word(OBJECT),
+                Token::Number(object as u64),
+                Token::Word(VALUE),
+                Token::Number(value as u64),
+            ],
+        ),
     }
-    put_digits(out, from, 10, t.value)
-}
-
-// The first n words and numbers, each after a space.
-fn put_rest(out: &mut [u8], at: usize, rest: [Piece; 9], n: usize) -> usize
-    requires { (at + 11 * n ≤ length out.old) × (n ≤ 9) }
-    ensures { Puts out.old at (rest_text (map piece_token (take n rest))) out.new result }
-{
-    let mut next = at;
-    let mut i: usize = 0;
-    while i < n {
-        let t = rest[i];
-        next = put_token(out, next, t);
-        i += 1;
-    }
-    next
 }
 
 // The words of a step.
+#[tactic(auto, unfolding(words::specs::Say::step_text))]
 pub fn put_step(out: &mut [u8], at: usize, s: Step) -> usize
     requires { at + 108 ≤ length out.old }
     ensures { Puts out.old at (step_text s) out.new result }
 {
-    let t = tokens_of(s);
-    let rest = t.rest;
-    let from = put_letters(out, at, 9, t.first);
-    put_rest(out, from, rest, t.count)
+    match s {
+        Step::Tick { site, n } => put_tokens(
+            out,
+            at,
+            TICK,
+            &[
+                Token::Number(site as u64),
+                Token::Word(BY),
+                Token::Number(n as u64),
+            ],
+        ),
+        Step::Begin {
+            home,
+            slot,
+            quiesce,
+            release,
+        } => put_tokens(
+            out,
+            at,
+            BEGIN,
+            &[
+                Token::Word(HOME),
+                Token::Number(home as u64),
+                Token::Word(SLOT),
+                Token::Number(slot as u64),
+                Token::Word(QUIESCE),
+                Token::Number(quiesce as u64),
+                Token::Word(RELEASE),
+                Token::Number(release as u64),
+            ],
+        ),
+        Step::Invoke {
+            handle,
+            site,
+            write,
+            object,
+            value,
+        } => put_invoke(out, at, handle, site, write, object, value),
+        Step::Refresh {
+            handle,
+            quiesce,
+            release,
+        } => put_tokens(
+            out,
+            at,
+            REFRESH,
+            &[
+                Token::Number(handle as u64),
+                Token::Word(QUIESCE),
+                Token::Number(quiesce as u64),
+                Token::Word(RELEASE),
+                Token::Number(release as u64),
+            ],
+        ),
+        Step::Terminate { handle } => put_tokens(
+            out,
+            at,
+            TERMINATE,
+            &[Token::Number(handle as u64)],
+        ),
+        Step::Prepare { handle } => put_tokens(out, at, PREPARE, &[Token::Number(handle as u64)]),
+        Step::Ask { handle, site } => put_tokens(
+            out,
+            at,
+            ASK,
+            &[
+                Token::Number(handle as u64),
+                Token::Word(AT),
+                Token::Number(site as u64),
+            ],
+        ),
+        Step::Close { handle } => put_tokens(out, at, CLOSE, &[Token::Number(handle as u64)]),
+        Step::Tell { handle, site } => put_tokens(
+            out,
+            at,
+            TELL,
+            &[
+                Token::Number(handle as u64),
+                Token::Word(AT),
+                Token::Number(site as u64),
+            ],
+        ),
+        Step::Abort { handle } => put_tokens(out, at, ABORT, &[Token::Number(handle as u64)]),
+        Step::Deliver { message } => put_tokens(out, at, DELIVER, &[Token::Number(message as u64)]),
+        Step::Drop { message } => put_tokens(out, at, DROP, &[Token::Number(message as u64)]),
+        Step::Sweep { site } => put_tokens(out, at, SWEEP, &[Token::Number(site as u64)]),
+        Step::Crash { site } => put_tokens(out, at, CRASH, &[Token::Number(site as u64)]),
+        Step::Recover { site } => put_tokens(out, at, RECOVER, &[Token::Number(site as u64)]),
+        Step::Retire { handle } => put_tokens(out, at, RETIRE, &[Token::Number(handle as u64)]),
+    }
 }
 
 fn hex_digit(d: u8) -> u8
@@ -70,10 +214,8 @@ fn put_bytes(out: &mut [u8], at: usize, bytes: [u8; 16]) -> usize
     ensures { Puts out.old at (hex_text bytes) out.new result }
 {
     let mut next = at;
-    let mut i: usize = 0;
-    while i < 16 {
-        next = put_hex(out, next, bytes[i]);
-        i += 1;
+    for b in bytes {
+        next = put_hex(out, next, b);
     }
     next
 }
@@ -83,7 +225,7 @@ fn put_raw(out: &mut [u8], at: usize, bytes: [u8; 16]) -> usize
     requires { at + 108 ≤ length out.old }
     ensures { Puts out.old at (raw_text bytes) out.new result }
 {
-    let word = put_letters(out, at, 9, 18487);
+    let word = put_letters(out, at, 9, RAW);
     let from = put_byte(out, word, b' ');
     put_bytes(out, from, bytes)
 }

@@ -10,7 +10,7 @@ use Rattle.rules.specs.declared.steps.SheetAnswer.{SheetAnswer}
 use Rattle.rules.specs.Sheet.{trailer_at, sheet_answer, sheet_records}
 use Rattle.rules.proofs.SheetLaws.{Whole, taken_whole}
 use Rattle.rules.specs.Listing.{decimal_of}
-use Rattle.words.specs.Types.{Fault, Line, Verdict, Reader}
+use Rattle.words.specs.Types.{Fault, Reader}
 use Rattle.words.specs.Scan.{blank, scan_all, end_of, verdict_of, line_most, lines_most, reading, stopped, reader_next, Read, unread, read_next, read_all, text_read}
 use Rattle.words.specs.Say.{text_bytes}
 use Rattle.words.specs.Faults.{line_behind, fault_text, fault_line}
