@@ -95,8 +95,7 @@ pub(crate) fn put_expected_at(out: &mut [u8], at: usize, node: u8) -> usize
     if node == RAW_NODE {
         return put_text(out, at, b"32 hex digits");
     }
-    let slot = slot_at(node);
-    if slot.width != 0 {
+    if slot_at(node).is_some() {
         return put_text(out, at, b"a number");
     }
     let after = put_choices(out, at, node);

@@ -2,7 +2,7 @@
 // Each function equals its definition in words' specs/Grammar.antt.
 #![tactic(auto)]
 
-ghost use Rattle.std.specs.Prelude.{◌≤◌, ◌<◌, ◌≡◌, ◌&&◌, cond, ltb, eqb};
+ghost use Rattle.std.specs.Prelude.{◌≤◌, ◌<◌, ◌≡◌, ◌&&◌, cond, ltb, eqb, IfSome};
 ghost use Rattle.std.specs.List.{position};
 ghost use Rattle.words.specs.declared.rows.Edge.{Edge};
 ghost use Rattle.words.specs.Grammar.{edge_of, edge_at, slot_at, may_end};
@@ -24,7 +24,7 @@ macro_rules! edge {
 // A number goes into `width` bytes from byte `field` on, and leads to place `to`.
 macro_rules! slot {
     ($field:literal, $width:literal, $to:literal) => {
-        Slot { field: $field, width: $width, to: $to }
+        Some(Slot { field: $field, width: $width, to: $to })
     };
 }
 
@@ -63,51 +63,48 @@ pub const EDGES: [Edge; EDGE_COUNT] = [
     edge!(29, VALUE, 7, 16, 0),
 ];
 
-// A place at which no number stands.
-const NO_NUMBER: Slot = slot!(0, 0, 0);
-
-// What a number does, a row to a place.
-const SLOTS: [Slot; 31] = [
-    NO_NUMBER,
-    NO_NUMBER,
+// What a number does, a row to a place; at some places none stands.
+const SLOTS: [Option<Slot>; 31] = [
+    None,
+    None,
     // 2 a, 3 c, 4 h, and the line may end
     slot!(1, 1, 1),
     slot!(3, 1, 1),
     slot!(4, 2, 1),
     // 5 tick: a, by, u
     slot!(1, 1, 6),
-    NO_NUMBER,
+    None,
     slot!(8, 4, 1),
     // 8 begin: home, a, slot, b, quiesce, u, release, v
-    NO_NUMBER,
+    None,
     slot!(1, 1, 10),
-    NO_NUMBER,
+    None,
     slot!(2, 1, 12),
-    NO_NUMBER,
+    None,
     slot!(8, 4, 14),
-    NO_NUMBER,
+    None,
     slot!(12, 4, 1),
     // 16 refresh: h, and on as begin does
     slot!(4, 2, 12),
     // 17 ask, tell: h, at, a
     slot!(4, 2, 18),
-    NO_NUMBER,
+    None,
     // 19 invoke: h, at, a, and then read, write or operation
     slot!(4, 2, 20),
-    NO_NUMBER,
+    None,
     slot!(1, 1, 22),
-    NO_NUMBER,
+    None,
     // 23 read: object, c, and the line may end, or value, u
-    NO_NUMBER,
+    None,
     slot!(3, 1, 25),
-    NO_NUMBER,
+    None,
     // 26 operation: b; 27 write: object, c, value, u
     slot!(2, 1, 27),
-    NO_NUMBER,
+    None,
     slot!(3, 1, 29),
-    NO_NUMBER,
+    None,
     // 30 raw
-    NO_NUMBER,
+    None,
 ];
 
 // Row k of the words.
@@ -133,11 +130,11 @@ pub fn edge_at(node: u8, word: u64) -> Option<usize>
     row_of(&EDGES, node, word)
 }
 
-// What a number does at this place.
-pub fn slot_at(node: u8) -> Slot
-    ensures { (result ≡ slot_at node) × (result.field ≤ 12) }
+// What a number does at this place, if one may stand here.
+pub fn slot_at(node: u8) -> Option<Slot>
+    ensures { (result ≡ cond (eqb (slot_at node).width 0) None (Some (slot_at node))) × IfSome result (λ s. s.field ≤ 12) }
 {
-    SLOTS.get(node as usize).copied().unwrap_or(NO_NUMBER)
+    SLOTS.get(node as usize).copied().flatten()
 }
 
 // Where a line may end.

@@ -86,11 +86,10 @@ fn filled(s: Scan, f: Slot) -> Scan
 fn number_taken(s: Scan) -> Scan
     ensures { result ≡ number_taken s }
 {
-    let f = slot_at(s.node);
-    if f.width == 0 {
-        return misplaced(s);
+    match slot_at(s.node) {
+        Some(f) => filled(s, f),
+        None => misplaced(s),
     }
-    filled(s, f)
 }
 
 // A word or a number, if there is one, has ended.

@@ -9,8 +9,6 @@ pub use Rattle.words.specs.declared.scan.Line.{Line}
 pub use Rattle.words.specs.declared.scan.Reader.{Reader}
 pub use Rattle.rules.specs.declared.steps.Step.{Step}
 pub use Rattle.rules.specs.Types.{Reading}
-pub use Rattle.words.specs.declared.tokens.Piece.{Piece}
-pub use Rattle.words.specs.declared.tokens.Tokens.{Tokens}
 
 -- what a line says, or what is wrong with it
 abbrev pub Verdict : Type 0

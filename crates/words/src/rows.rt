@@ -16,7 +16,7 @@ pub struct Edge {
     pub value: u8,
 }
 
-// A number goes into `width` bytes of the record from byte `field` on, and leads to place `to`; a width of 0 is none.
+// A number goes into `width` bytes of the record from byte `field` on, and leads to place `to`.
 #[derive(Clone, Copy)]
 pub struct Slot {
     pub field: u8,
