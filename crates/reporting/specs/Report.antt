@@ -1,5 +1,5 @@
 -- What ./clearance prints: one definition over the words of the request, the two lists and the sheet, each any bytes. Assumes nothing.
-use Rattle.std.specs.Prelude.{ℕ, zero, suc, ◌/◌, Bool, cond, not, ◌&&◌, ◌||◌, List, [], ◌∷◌, ◌++◌, ltb, eqb, length, get_or, take}
+use Rattle.std.specs.Prelude.{ℕ, zero, suc, ◌/◌, Bool, cond, ◌&&◌, ◌||◌, List, [], ◌∷◌, ◌++◌, ltb, eqb, length, get_or, take, Option, Some, None}
 use Rattle.rules.specs.declared.steps.Step.{Step}
 use Rattle.rules.specs.declared.steps.SheetAnswer.{SheetAnswer}
 use Rattle.rules.specs.declared.outcomes.Refusal.{Refusal}
@@ -93,9 +93,11 @@ abbrev pub is_too_long : List ℕ → Bool
 is_too_long list = ltb 16384 (length list)
 
 -- "Tried in this order: request not read, list too long, sheet N, refused N NAME."
+abbrev pub told_of : Option Request → List ℕ → List ℕ → List ℕ → List ℕ
+told_of None station company sheet = text_bytes "request not read\n"
+told_of (Some request) station company sheet =
+    cond (is_too_long station || is_too_long company) (text_bytes "list too long\n")
+    (taken_by (sheet_answer sheet) (cleared_told station company (objects_in request) (checked_after (sheet_records sheet) request)))
+
 unfoldable pub report_of : List ℕ → List ℕ → List ℕ → List ℕ → List ℕ
-report_of text station company sheet =
-    let request : Request = request_of text in
-    cond (not request.read) (text_bytes "request not read\n")
-    (cond (is_too_long station || is_too_long company) (text_bytes "list too long\n")
-    (taken_by (sheet_answer sheet) (cleared_told station company (objects_in request) (checked_after (sheet_records sheet) request))))
+report_of text station company sheet = told_of (request_of text) station company sheet
