@@ -205,10 +205,9 @@ pub fn report<'a>(
 ) -> usize
     ensures { Puts out.old 0 (report_of text.now station.now company.now sheet.now) out.new result × (result ≤ length out.new) }
 {
-    let request = read_request(text);
-    if !request.read {
+    let Some(request) = read_request(text) else {
         return put_text(out, 0, b"request not read\n");
-    }
+    };
     if is_too_long(station) | is_too_long(company) {
         return put_text(out, 0, b"list too long\n");
     }
