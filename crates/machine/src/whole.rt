@@ -169,8 +169,7 @@ pub(crate) fn record_in_range(t: Tables, bytes: [u8; 16]) -> Outcome
     requires { in_range t ≡ true }
     ensures { result ≡ record_in_range_of t bytes }
 {
-    let reading = read_record(bytes);
-    match reading {
+    match read_record(bytes) {
         None => Outcome {
             answer: Err(Refusal::NoStep),
             tables: t,
