@@ -6,5 +6,5 @@ use Rattle.faults.proofs.expected.put_choice.Goals as goal
 
 pub returns : goal.returns
 returns c =
-    rw (← c.edge_of-e.ensures, eq-eqb c.edge_of-e.result.from c.args.node c.if-e-node.false, ← c.choices_up_to-before.ensures.0, ← c.choice_count-count.ensures)
+    rw (← c.edge_of-e.ensures.0, eq-eqb c.edge_of-e.result.from c.args.node c.if-e-node.false, ← c.choices_up_to-before.ensures.0, ← c.choice_count-count.ensures)
     (put_both (omega arith) c.put_separator-after.ensures c.put_letters.ensures)
