@@ -7,17 +7,25 @@ ghost use Rattle.std.specs.List.{position};
 ghost use Rattle.words.specs.declared.rows.Edge.{Edge};
 ghost use Rattle.words.specs.Grammar.{edge_of, edge_at, slot_at, may_end};
 
-use words::rows::{EDGE_COUNT, Edge, Slot};
+use words::rows::{EDGE_COUNT, Edge, Said, Slot};
 use words::vocabulary::{
     ABORT, ASK, AT, BEGIN, BY, CLOSE, CRASH, DELIVER, DROP, HOME, INVOKE, OBJECT, OPERATION,
     PREPARE, QUIESCE, RAW, READ, RECOVER, REFRESH, RELEASE, RETIRE, SLOT, SWEEP, TELL, TERMINATE,
     TICK, VALUE, WRITE,
 };
 
-// At place `from` the word leads to place `to`, and puts `value` into byte `field`; a field of 16 is none.
+// At place `from` the word leads to place `to`, and may say that byte `field` of the record is `value`.
 macro_rules! edge {
-    ($from:literal, $word:expr, $to:literal, $field:literal, $value:literal) => {
-        Edge { from: $from, word: $word, to: $to, field: $field, value: $value }
+    ($from:literal, $word:expr, $to:literal) => {
+        Edge { from: $from, word: $word, to: $to, says: None }
+    };
+    ($from:literal, $word:expr, $to:literal, $field:literal = $value:literal) => {
+        Edge {
+            from: $from,
+            word: $word,
+            to: $to,
+            says: Some(Said { field: $field, value: $value }),
+        }
     };
 }
 
@@ -30,37 +38,37 @@ macro_rules! slot {
 
 // Where each word leads, a row to a word.
 pub const EDGES: [Edge; EDGE_COUNT] = [
-    edge!(0, TICK, 5, 0, 1),
-    edge!(0, BEGIN, 8, 0, 2),
-    edge!(0, INVOKE, 19, 0, 3),
-    edge!(0, REFRESH, 16, 0, 4),
-    edge!(0, TERMINATE, 4, 0, 5),
-    edge!(0, PREPARE, 4, 0, 6),
-    edge!(0, ASK, 17, 0, 7),
-    edge!(0, CLOSE, 4, 0, 8),
-    edge!(0, TELL, 17, 0, 9),
-    edge!(0, ABORT, 4, 0, 10),
-    edge!(0, DELIVER, 3, 0, 11),
-    edge!(0, DROP, 3, 0, 12),
-    edge!(0, SWEEP, 2, 0, 13),
-    edge!(0, CRASH, 2, 0, 14),
-    edge!(0, RECOVER, 2, 0, 15),
-    edge!(0, RETIRE, 4, 0, 16),
-    edge!(0, RAW, 30, 16, 0),
-    edge!(6, BY, 7, 16, 0),
-    edge!(8, HOME, 9, 16, 0),
-    edge!(10, SLOT, 11, 16, 0),
-    edge!(12, QUIESCE, 13, 16, 0),
-    edge!(14, RELEASE, 15, 16, 0),
-    edge!(18, AT, 2, 16, 0),
-    edge!(20, AT, 21, 16, 0),
-    edge!(22, READ, 23, 2, 0),
-    edge!(22, WRITE, 27, 2, 1),
-    edge!(22, OPERATION, 26, 16, 0),
-    edge!(23, OBJECT, 24, 16, 0),
-    edge!(25, VALUE, 7, 16, 0),
-    edge!(27, OBJECT, 28, 16, 0),
-    edge!(29, VALUE, 7, 16, 0),
+    edge!(0, TICK, 5, 0 = 1),
+    edge!(0, BEGIN, 8, 0 = 2),
+    edge!(0, INVOKE, 19, 0 = 3),
+    edge!(0, REFRESH, 16, 0 = 4),
+    edge!(0, TERMINATE, 4, 0 = 5),
+    edge!(0, PREPARE, 4, 0 = 6),
+    edge!(0, ASK, 17, 0 = 7),
+    edge!(0, CLOSE, 4, 0 = 8),
+    edge!(0, TELL, 17, 0 = 9),
+    edge!(0, ABORT, 4, 0 = 10),
+    edge!(0, DELIVER, 3, 0 = 11),
+    edge!(0, DROP, 3, 0 = 12),
+    edge!(0, SWEEP, 2, 0 = 13),
+    edge!(0, CRASH, 2, 0 = 14),
+    edge!(0, RECOVER, 2, 0 = 15),
+    edge!(0, RETIRE, 4, 0 = 16),
+    edge!(0, RAW, 30),
+    edge!(6, BY, 7),
+    edge!(8, HOME, 9),
+    edge!(10, SLOT, 11),
+    edge!(12, QUIESCE, 13),
+    edge!(14, RELEASE, 15),
+    edge!(18, AT, 2),
+    edge!(20, AT, 21),
+    edge!(22, READ, 23, 2 = 0),
+    edge!(22, WRITE, 27, 2 = 1),
+    edge!(22, OPERATION, 26),
+    edge!(23, OBJECT, 24),
+    edge!(25, VALUE, 7),
+    edge!(27, OBJECT, 28),
+    edge!(29, VALUE, 7),
 ];
 
 // What a number does, a row to a place; at some places none stands.
@@ -110,7 +118,7 @@ const SLOTS: [Option<Slot>; 31] = [
 // Row k of the words.
 pub fn edge_of(k: usize) -> Edge
     requires { k < 31 }
-    ensures { result ≡ edge_of k }
+    ensures { (result ≡ edge_of k) × IfSome result.says (λ s. s.field < 16) }
 {
     EDGES[k]
 }

@@ -1,5 +1,6 @@
 -- The types of src/ and of the steps, under short names. Assumes nothing.
 use Rattle.std.specs.Prelude.{Result}
+pub use Rattle.words.specs.declared.rows.Said.{Said}
 pub use Rattle.words.specs.declared.rows.Edge.{Edge}
 pub use Rattle.words.specs.declared.rows.Slot.{Slot}
 pub use Rattle.words.specs.declared.scan.Fault.{Fault}
