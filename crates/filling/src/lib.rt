@@ -25,3 +25,22 @@ pub fn fill<R: Read, const N: usize>(input: &mut R, buf: &mut [u8; N]) -> io::Re
     }
     Ok(done)
 }
+
+#[cfg(test)]
+mod tests {
+    use super::fill;
+    use std::io;
+
+    // No clause says that a read succeeds.
+    #[test]
+    fn fills_as_far_as_the_input_goes(rt: HostRuntime) -> io::Result<()> {
+        let mut buf = [0u8; 4];
+        let mut short: &[u8] = b"abc";
+        assert_eq!(rt; fill(&mut short, &mut buf)?, 3);
+        assert_eq!(rt; buf, *b"abc\0");
+        let mut long: &[u8] = b"defgh";
+        assert_eq!(rt; fill(&mut long, &mut buf)?, 4);
+        assert_eq!(rt; buf, *b"defg");
+        Ok(())
+    }
+}
