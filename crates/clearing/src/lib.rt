@@ -15,14 +15,14 @@ use rules::steps::Step;
 use rules::tables::Tables;
 use way::Way;
 
-// What a check refuses by itself, before any step, in the order in which it is tried.
+// What a check refuses by itself, before any step, in the order in which it is tried, with its number.
 #[derive(Clone, Copy)]
 pub enum OwnRefusal {
-    Beam,
-    Margin,
-    List,
-    Object,
-    Twice,
+    Beam = 1,
+    Margin = 2,
+    List = 3,
+    Object = 4,
+    Twice = 5,
 }
 
 // No reading names the step that was refused, and its refusal.
