@@ -9,23 +9,7 @@ use rules::outcomes::{Answer, Refusal};
 pub fn refusal_number(r: Refusal) -> u64
     ensures { result ≡ refusal_number r }
 {
-    match r {
-        Refusal::OutOfRange => 20,
-        Refusal::NoStep => 1,
-        Refusal::BadField => 2,
-        Refusal::NotThere => 3,
-        Refusal::SiteDown => 4,
-        Refusal::WrongState => 5,
-        Refusal::NoVisit => 6,
-        Refusal::ClockFull => 7,
-        Refusal::Quiesced => 8,
-        Refusal::WrongRound => 9,
-        Refusal::Held => 10,
-        Refusal::Full => 11,
-        Refusal::NotClosed => 12,
-        Refusal::NoCallLeft => 13,
-        Refusal::NoRoundLeft => 14,
-    }
+    r as u64
 }
 
 pub fn answer_number(a: Answer) -> u64
@@ -41,8 +25,5 @@ pub fn answer_number(a: Answer) -> u64
 pub fn answer_value(a: Answer) -> u64
     ensures { result ≡ answer_value a }
 {
-    match a {
-        Ok(value) => value,
-        Err(_) => 0,
-    }
+    a.unwrap_or(0)
 }

@@ -4,40 +4,19 @@
 
 ghost use Rattle.std.specs.Prelude.{◌≤◌, length, IfOk};
 
+use filling::fill;
 use reporting::report;
 use std::env::Env;
-use std::io::{ErrorKind, Read, Write};
+use std::io::{ErrorKind, Write};
 use std::{fs, io};
 
-// Fills the buffer as far as the input goes.
-fn fill(input: &mut impl Read, buf: &mut [u8]) -> io::Result<usize>
-    ensures { IfOk result (λ n. n ≤ length buf.new) }
-{
-    let mut done = 0;
-    for _ in 0..u64::MAX {
-        if done == buf.len() {
-            break;
-        }
-        let n = input.read(&mut buf[done..])?;
-        if n == 0 {
-            break;
-        }
-        done += n;
-    }
-    Ok(done)
-}
-
-// The file that argument i names, at the front of the buffer: all of it, or as much as there is room for.
-fn take(rt: &HostRuntime, i: usize, buf: &mut [u8]) -> io::Result<usize>
+// The file that argument i names, at the front of the array: all of it, or as much as there is room for.
+fn take<const N: usize>(rt: &HostRuntime, i: usize, buf: &mut [u8; N]) -> io::Result<usize>
     ensures { IfOk result (λ n. n ≤ length buf.new) }
 {
     let mut path = [0u8; 4096];
-    let Ok(k) = rt.arg(i, &mut path) else {
-        return Err(io::Error::from(ErrorKind::NotFound));
-    };
-    let Ok(name) = str::from_utf8(&path[..k]) else {
-        return Err(io::Error::from(ErrorKind::NotFound));
-    };
+    let k = rt.arg(i, &mut path).map_err(|_| ErrorKind::NotFound)?;
+    let name = str::from_utf8(&path[..k]).map_err(|_| ErrorKind::NotFound)?;
     fill(&mut fs::open(rt, name)?, buf)
 }
 

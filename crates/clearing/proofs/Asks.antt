@@ -23,7 +23,7 @@ use Rattle.rules.specs.StoredLaws.{Sized}
 use Rattle.rules.proofs.EffectsLaws.{ClockMoves}
 use Rattle.rules.proofs.EffectsRounds.{Opened, prepare_effects, AskSent, ask_effects, close_effects}
 use Rattle.rules.proofs.EffectsPhases.{AskDelivered, ask_delivered_effects, AnswerDelivered, answer_delivered_effects}
-use Rattle.clearing.specs.declared.Way.{Way}
+use Rattle.clearing.specs.declared.way.Way.{Way}
 use Rattle.clearing.specs.Question.{listed, is_to_ask, has_object_at}
 use Rattle.clearing.specs.Clearing.{made, ask_one, asks_up_to, read_all, prepare_made, close_made}
 use Rattle.clearing.specs.Underway.{Course, Runs, Near, Between, InFlight, Going, going_on, going_as, goes_there_and_back, stops_between, stops_in_flight, runs_on, near_on, read_on, kept_on, others_on, emptied_on, was_empty}

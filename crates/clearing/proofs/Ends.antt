@@ -4,7 +4,7 @@ use Rattle.std.proofs.Math.Path.{refl, ap}
 use Rattle.std.proofs.Common.{sym, ◌∙◌, subst}
 use Rattle.rules.specs.declared.tables.Tables.{Tables}
 use Rattle.rules.specs.Types.{Answer}
-use Rattle.clearing.specs.declared.Way.{Way}
+use Rattle.clearing.specs.declared.way.Way.{Way}
 use Rattle.clearing.specs.declared.OwnRefusal.{OwnRefusal}
 use Rattle.clearing.specs.declared.Verdict.{Verdict}
 use Rattle.clearing.specs.declared.Cleared.{Cleared}

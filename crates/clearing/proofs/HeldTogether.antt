@@ -21,11 +21,11 @@ use Rattle.rules.proofs.EffectsLaws.{accepted_answer}
 use Rattle.rules.proofs.EffectsPlaces.{in_range_after_accepted}
 use Rattle.rules.proofs.EffectsLife.{Aborted, abort_effects, abort_accepted}
 use Rattle.rules.proofs.EffectsCalls.{Dropped, drop_effects, drop_accepted}
-use Rattle.clearing.specs.declared.Way.{Way}
+use Rattle.clearing.specs.declared.way.Way.{Way}
 use Rattle.clearing.specs.declared.Verdict.{Verdict}
 use Rattle.clearing.specs.declared.Cleared.{Cleared}
 use Rattle.clearing.specs.Question.{is_to_ask, is_fitting}
-use Rattle.clearing.specs.Clearing.{made, then_made, handle_in, mail_in, width_in, there_and_back, reads_up_to, widths_up_to, read_all, prepare_made, ask_one, asks_up_to, given_up, begun_of, cleared_of}
+use Rattle.clearing.specs.Clearing.{made, then_made, handle_in, mail_in, width_in, there_and_back, reads_up_to, widths_up_to, read_all, prepare_made, ask_one, asks_up_to, given_up, is_begun, handle_of, begun_of, cleared_of}
 use Rattle.clearing.specs.Underway.{Course, Runs, HoldsRead, Between, Kept, CanGiveUp, Going, kept_on, emptied_on}
 use Rattle.clearing.proofs.ReadsLaws.{reads_go}
 use Rattle.clearing.proofs.Asks.{prepare_goes, close_goes}
@@ -144,7 +144,7 @@ module _ (course : Course) (slot : ℕ) (w : Way) (is : slot_of course.handle �
       (λ y. rw y abort_status)
       (either (is_step 11 w.step))
 
-  gives_up : (c : Cleared) → c.handle ≡ h → c.tables ≡ given_up h w → Leaves course.handed slot w c
+  gives_up : (c : Cleared) → handle_of c ≡ h → c.tables ≡ given_up h w → Leaves course.handed slot w c
   gives_up c hd tb =
       record {
         aborts = rw hd (ap is_accepted abort_goes);
@@ -252,7 +252,7 @@ module _ (t : Tables) (beam margin : ℕ) (objects : List ℕ) (home slot quiesc
   -- a check that says "no reading" after an accepted begin was refused at this step: the last that it made before its abort
   pub no_reading_leaves :
       (step : Step) (r : Refusal) → (cleared_of t beam margin objects home slot quiesce release).verdict ≡ Verdict.NoReading step r
-      → (cleared_of t beam margin objects home slot quiesce release).begun ≡ true
+      → is_begun (cleared_of t beam margin objects home slot quiesce release) ≡ true
       → let w : Way = closing t objects home slot quiesce release in
       (w.answer ≡ Err r) × (w.step ≡ step) × Leaves t slot w (cleared_of t beam margin objects home slot quiesce release)
   no_reading_leaves step r said begun = by (ends t beam margin objects home slot quiesce release) said begun
@@ -270,7 +270,7 @@ module _ (t : Tables) (beam margin : ℕ) (objects : List ℕ) (home slot quiesc
       refusal_in Verdict.Fits = r
 
       by :
-          {c : Cleared} → Ends t beam margin objects home slot quiesce release c → c.verdict ≡ Verdict.NoReading step r → c.begun ≡ true
+          {c : Cleared} → Ends t beam margin objects home slot quiesce release c → c.verdict ≡ Verdict.NoReading step r → is_begun c ≡ true
           → let w : Way = closing t objects home slot quiesce release in
           (w.answer ≡ Err r) × (w.step ≡ step) × Leaves t slot w c
       by (Ends.Refused own e) f b = absurd (false≢true (rw e at b))
@@ -288,6 +288,6 @@ module _ (t : Tables) (beam margin : ℕ) (objects : List ℕ) (home slot quiesc
             y ∙ ap Err (ap refusal_in said),
             ap step_in said,
             gives_up (course_of t home objects w (handle_in w)) slot (closing t objects home slot quiesce release) start.slot_is g c
-                (ap (λ (c : Cleared). c.handle) e)
+                (ap handle_of e)
                 (ap (λ (c : Cleared). c.tables) e),
           )

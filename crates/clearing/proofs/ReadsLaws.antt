@@ -26,7 +26,7 @@ use Rattle.rules.proofs.RangesFits.{CallFits, call_range_says}
 use Rattle.rules.proofs.EffectsLaws.{OnlyObject}
 use Rattle.rules.proofs.EffectsPlaces.{message_fits}
 use Rattle.rules.proofs.EffectsCalls.{Invoked, invoke_effects, CallDelivered, call_delivered_effects, ReplyDelivered, reply_delivered_effects}
-use Rattle.clearing.specs.declared.Way.{Way}
+use Rattle.clearing.specs.declared.way.Way.{Way}
 use Rattle.clearing.specs.Question.{listed}
 use Rattle.clearing.specs.Clearing.{made, read_one, reads_up_to}
 use Rattle.clearing.specs.Underway.{Course, clock_here, clock_has, quiesce_most, width_most_lem, Runs, HoldsRead, Between, InFlight, Going, width_read, going_as, goes_there_and_back, stops_between, stops_in_flight, runs_on, near_on, read_on, others_on, emptied_on, was_empty}

@@ -13,7 +13,7 @@ use Rattle.rules.specs.Machine.{step_of}
 use Rattle.rules.specs.StoredLaws.{Storable, sized_after_step}
 use Rattle.rules.proofs.EffectsPlaces.{in_range_after_accepted}
 use Rattle.rules.proofs.EffectsLife.{Begun, begin_effects}
-use Rattle.clearing.specs.declared.Way.{Way}
+use Rattle.clearing.specs.declared.way.Way.{Way}
 use Rattle.clearing.specs.Clearing.{handle_in, begun_of}
 use Rattle.clearing.specs.Underway.{Course, Between}
 

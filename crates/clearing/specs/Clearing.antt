@@ -1,7 +1,7 @@
 -- The clearance check, step by step, each step answered before the next. Assumes nothing.
 -- "It opens one passage, reads every object from home, commits, and says "fits" exactly if it committed
 -- and beam plus margin is at most every width that it read."
-use Rattle.std.specs.Prelude.{ℕ, zero, suc, ◌+◌, ◌%◌, Bool, true, false, cond, List, length, set, replicate, Ok, Err}
+use Rattle.std.specs.Prelude.{ℕ, zero, suc, ◌+◌, ◌%◌, Bool, cond, List, length, set, replicate, Option, Some, None, is_some, unwrap_or, Ok, Err}
 use Rattle.rules.specs.declared.tables.Tables.{Tables}
 use Rattle.rules.specs.declared.steps.Step.{Step}
 use Rattle.rules.specs.Types.{Answer}
@@ -11,7 +11,7 @@ use Rattle.rules.specs.Loops.{one_if}
 use Rattle.rules.specs.Answers.{is_accepted, answer_value}
 use Rattle.rules.specs.Machine.{step_of}
 use Rattle.rules.specs.Record.{flat_of, is_step}
-use Rattle.clearing.specs.declared.Way.{Way}
+use Rattle.clearing.specs.declared.way.Way.{Way}
 use Rattle.clearing.specs.declared.OwnRefusal.{OwnRefusal}
 use Rattle.clearing.specs.declared.Verdict.{Verdict}
 use Rattle.clearing.specs.declared.Cleared.{Cleared}
@@ -109,24 +109,31 @@ given_up h w = dropped (made w.tables (Step.Abort h)).tables w.step
 
 -- ---- what it gives
 
+-- was a passage begun?
+abbrev pub is_begun : Cleared → Bool
+is_begun c = is_some c.passage
+
+-- and its handle, 0 where none was
+abbrev pub handle_of : Cleared → ℕ
+handle_of c = unwrap_or c.passage 0
+
 abbrev pub no_widths : List ℕ
 no_widths = replicate 8 0
 
 -- "tables as handed in"
 abbrev pub refused_by : OwnRefusal → Tables → Cleared
 refused_by own t =
-    record { verdict = Verdict.Refused own; widths = no_widths; count = 0; read = 0; begun = false; handle = 0; tables = t }
+    record { verdict = Verdict.Refused own; widths = no_widths; count = 0; read = 0; passage = None; tables = t }
 
 -- ""No reading", and every width in the result is 0, those already read too"
-abbrev pub no_reading : Bool → ℕ → ℕ → Step → Refusal → Tables → Cleared
-no_reading begun h read step refusal t =
+abbrev pub no_reading : Option ℕ → ℕ → Step → Refusal → Tables → Cleared
+no_reading passage read step refusal t =
     record {
       verdict = Verdict.NoReading step refusal;
       widths = no_widths;
       count = 0;
       read = read;
-      begun = begun;
-      handle = h;
+      passage = passage;
       tables = t;
     }
 
@@ -138,8 +145,7 @@ committed beam margin widths count h t =
       widths = widths;
       count = count;
       read = count;
-      begun = true;
-      handle = h;
+      passage = Some h;
       tables = t;
     }
 
@@ -148,7 +154,7 @@ abbrev pub ended_by : Answer → ℕ → ℕ → List ℕ → ℕ → List ℕ �
 ended_by (Ok v) beam margin objects home widths read h w =
     committed beam margin widths (length objects) h (tells_up_to h home objects w.tables 8)
 ended_by (Err refusal) beam margin objects home widths read h w =
-    no_reading true h read w.step refusal (given_up h w)
+    no_reading (Some h) read w.step refusal (given_up h w)
 
 abbrev pub ended_of : ℕ → ℕ → List ℕ → ℕ → List ℕ → ℕ → ℕ → Way → Cleared
 ended_of beam margin objects home widths read h w = ended_by w.answer beam margin objects home widths read h w
@@ -163,7 +169,7 @@ went_of beam margin objects home w =
 -- by begin's answer: "nothing is aborted; the slot may be another's passage"
 abbrev pub begun_by : Answer → ℕ → ℕ → List ℕ → ℕ → Way → Cleared
 begun_by (Ok v) beam margin objects home w = went_of beam margin objects home w
-begun_by (Err refusal) beam margin objects home w = no_reading false 0 0 w.step refusal w.tables
+begun_by (Err refusal) beam margin objects home w = no_reading None 0 w.step refusal w.tables
 
 -- 1. "begin; h is its value"
 abbrev pub begun_of : Tables → ℕ → ℕ → ℕ → ℕ → Way

@@ -1,10 +1,10 @@
 -- A check ends in one of four ways: refused by itself, never begun, given up, committed. Assumes nothing.
-use Rattle.std.specs.Prelude.{ℕ, ◌≡◌, true, false, List, length, Ok, Err}
+use Rattle.std.specs.Prelude.{ℕ, ◌≡◌, false, List, length, Some, None, Ok, Err}
 use Rattle.rules.specs.declared.tables.Tables.{Tables}
 use Rattle.rules.specs.declared.steps.Step.{Step}
 use Rattle.rules.specs.Types.{Answer}
 use Rattle.rules.specs.declared.outcomes.Refusal.{Refusal}
-use Rattle.clearing.specs.declared.Way.{Way}
+use Rattle.clearing.specs.declared.way.Way.{Way}
 use Rattle.clearing.specs.declared.OwnRefusal.{OwnRefusal}
 use Rattle.clearing.specs.declared.Cleared.{Cleared}
 use Rattle.clearing.specs.Question.{bad_beam, bad_margin, bad_list, bad_object, names_twice}
@@ -55,10 +55,10 @@ module _ (t : Tables) (beam margin : ℕ) (objects : List ℕ) (home slot quiesc
     Refused : (own : OwnRefusal) → c ≡ refused_by own t → Ends c
     Unbegun :
         (r : Refusal) → begun.answer ≡ Err r
-        → c ≡ no_reading false 0 0 (Step.Begin home slot quiesce release) r begun.tables → Ends c
+        → c ≡ no_reading None 0 (Step.Begin home slot quiesce release) r begun.tables → Ends c
     GivenUp :
         (v : ℕ) (r : Refusal) → begun.answer ≡ Ok v → last.answer ≡ Err r
-        → c ≡ no_reading true h (read_count h home objects begun (length objects)) last.step r (given_up h last) → Ends c
+        → c ≡ no_reading (Some h) (read_count h home objects begun (length objects)) last.step r (given_up h last) → Ends c
     Committed :
         (v u : ℕ) → Fair → begun.answer ≡ Ok v → last.answer ≡ Ok u
         → c ≡ committed beam margin (widths_read t objects home slot quiesce release) (length objects) h (tells_up_to h home objects last.tables 8) → Ends c

@@ -1,10 +1,11 @@
 -- What a clearance check is asked, and what it refuses by itself, before any step. Assumes nothing.
 -- "for a beam of 0 or over 1,000,000, a margin over 5,000, a list that is empty or longer than eight, an object number over 31,
 -- or an object named twice, tried in that order"
-use Rattle.std.specs.Prelude.{ℕ, ◌+◌, Bool, not, ◌&&◌, ◌||◌, List, ltb, eqb, leb, length, get_or}
+use Rattle.std.specs.Prelude.{ℕ, ◌+◌, Bool, cond, not, ◌&&◌, ◌||◌, List, ltb, eqb, leb, length, get_or, Result, Ok, Err}
 use Rattle.rules.specs.Limits.{object_most}
 use Rattle.rules.specs.Loops.{some_up_to, every_up_to}
 use Rattle.rules.specs.Tables.{object_site}
+use Rattle.clearing.specs.declared.OwnRefusal.{OwnRefusal}
 
 -- the object at a place of the list
 abbrev pub listed : List ℕ → ℕ → ℕ
@@ -33,6 +34,15 @@ is_named_before objects i = some_up_to (λ j. eqb (listed objects j) (listed obj
 -- 5: "an object named twice"
 abbrev pub names_twice : List ℕ → Bool
 names_twice objects = some_up_to (is_named_before objects) (length objects)
+
+-- the first of these refusals that applies
+abbrev pub own_refusal_of : ℕ → ℕ → List ℕ → Result (Unit {0}) OwnRefusal
+own_refusal_of beam margin objects =
+    cond (bad_beam beam) (Err OwnRefusal.Beam)
+    (cond (bad_margin margin) (Err OwnRefusal.Margin)
+    (cond (bad_list objects) (Err OwnRefusal.List)
+    (cond (bad_object objects) (Err OwnRefusal.Object)
+    (cond (names_twice objects) (Err OwnRefusal.Twice) (Ok tt)))))
 
 -- does an object of the list stand at this station?
 abbrev pub has_object_at : List ℕ → ℕ → Bool

@@ -30,7 +30,7 @@ use Rattle.rules.proofs.RangesFits.{ObjectFits, seen_says}
 use Rattle.rules.proofs.RefusedLaws.{refused_leaves}
 use Rattle.rules.proofs.EffectsLaws.{OnlyMessage, ClockMoves}
 use Rattle.rules.proofs.EffectsPlaces.{in_range_after_accepted, InUse}
-use Rattle.clearing.specs.declared.Way.{Way}
+use Rattle.clearing.specs.declared.way.Way.{Way}
 use Rattle.clearing.specs.Question.{listed}
 use Rattle.clearing.specs.Clearing.{made, then_made, mail_in, width_in, there_and_back, reads_up_to}
 

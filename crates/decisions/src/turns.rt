@@ -22,10 +22,7 @@ fn count_one(answer: Answer, b: bool) -> Answer
     requires { answer_value answer ≤ 1000 }
     ensures { result ≡ count_one answer b }
 {
-    match answer {
-        Ok(v) => Ok(counted(v, b)),
-        Err(refusal) => Err(refusal),
-    }
+    answer.map(|v| counted(v, b))
 }
 
 // Where the turn of a trip at this slot looks.

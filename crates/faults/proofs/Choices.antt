@@ -1,5 +1,5 @@
 -- The words that lead on from a place: how long they are, and where they are what is expected. Assumes nothing.
-use Rattle.std.specs.Prelude.{ℕ, zero, suc, ◌+◌, ◌≤◌, ◌≡◌, refl, Bool, true, false, List, [], ◌∷◌, ◌++◌, eqb, length, get_or, take, count_by}
+use Rattle.std.specs.Prelude.{Option, Some, None, is_some, cond, not, ℕ, zero, suc, ◌+◌, ◌≤◌, ◌≡◌, refl, Bool, true, false, List, [], ◌∷◌, ◌++◌, eqb, length, get_or, take, count_by}
 use Rattle.std.proofs.Common.{arith, sym, ap, ◌∙◌, zero-add, length-append}
 use Rattle.std.proofs.lemmas.List.Sums.{sum_by-append}
 use Rattle.std.proofs.Math.Seq.{take-suc}
@@ -33,6 +33,11 @@ choice_length node k =
     cond_length (eqb (edge_of k).from node) (before ++ word_text (edge_of k).word) [] 13
     (rw (length-append before (word_text (edge_of k).word)) (omega (arith, separator_length (choices_up_to node k) (choice_count node), letters_length 9 (edge_of k).word)))
     (omega arith)
+
+-- whether a number stands
+pub number_stands : {A : Type 0} (none : Bool) (x : A) (o : Option A) (r : Bool) → o ≡ cond none None (Some x) → r ≡ is_some o → none ≡ not r
+number_stands true x o r e f = sym (ap not (f ∙ ap is_some e))
+number_stands false x o r e f = sym (ap not (f ∙ ap is_some e))
 
 -- where no number stands, the words that lead on
 pub choices_expected :

@@ -1,10 +1,10 @@
 // What was expected, read off the grammar's two tables.
 ghost use Rattle.std.specs.Prelude.{◌+◌, ◌≤◌, ◌<◌, ◌≡◌, count_by, eqb, length};
 ghost use Rattle.words.specs.declared.rows.Edge.{Edge};
-ghost use Rattle.buffer.specs.Text.{Puts};
+ghost use Rattle.buffer.specs.Page.{HasRoom, Writes};
 ghost use Rattle.words.specs.Faults.{choices_up_to, choice_count, separator, choice_text, choices_text, nothing_text, expected_at};
 
-use buffer::{put_letters, put_text};
+use buffer::Page;
 use grammar::{EDGES, edge_of, may_end, slot_at};
 use words::rows::{EDGE_COUNT, Edge, RAW_NODE};
 
@@ -33,72 +33,68 @@ fn choice_count(node: u8) -> usize
 }
 
 // What stands before a choice that has so many before it.
-fn put_separator(out: &mut [u8], at: usize, before: usize, count: usize) -> usize
-    requires { (at + 4 ≤ length out.old) × (before ≤ 31) }
-    ensures { Puts out.old at (separator before count) out.new result }
+fn put_separator(page: &mut Page<'_>, before: usize, count: usize)
+    requires { HasRoom page.old 4 × (before ≤ 31) }
+    ensures { Writes page.old page.new (separator before count) }
 {
     if before == 0 {
-        return at;
+        return;
     }
     if before + 1 == count {
-        return put_text(out, at, b" or ");
+        page.put_text(b" or ");
+    } else {
+        page.put_text(b", ");
     }
-    put_text(out, at, b", ")
 }
 
 // The word of row k, if it leads on from this place.
-fn put_choice(out: &mut [u8], at: usize, node: u8, k: usize) -> usize
-    requires { (at + 13 ≤ length out.old) × (k < 31) }
-    ensures { Puts out.old at (choice_text node k) out.new result }
+#[tactic(auto, using(crate::proofs::Choices::separator_length))]
+fn put_choice(page: &mut Page<'_>, node: u8, k: usize)
+    requires { HasRoom page.old 13 × (k < 31) }
+    ensures { Writes page.old page.new (choice_text node k) }
 {
     let e = edge_of(k);
-    if e.from != node {
-        return at;
+    if e.from == node {
+        put_separator(page, choices_up_to(node, k), choice_count(node));
+        page.put_letters(9, e.word);
     }
-    let before = choices_up_to(node, k);
-    let count = choice_count(node);
-    let after = put_separator(out, at, before, count);
-    put_letters(out, after, 9, e.word)
 }
 
-fn put_choices(out: &mut [u8], at: usize, node: u8) -> usize
-    requires { at + 403 ≤ length out.old }
-    ensures { Puts out.old at (choices_text node 31) out.new result × (result ≤ at + 403) }
+fn put_choices(page: &mut Page<'_>, node: u8)
+    requires { HasRoom page.old 403 }
+    ensures { Writes page.old page.new (choices_text node 31) × (page.new.len ≤ page.old.len + 403) }
 {
-    let mut next = at;
     for k in 0..EDGE_COUNT {
-        next = put_choice(out, next, node, k);
+        put_choice(page, node, k);
     }
-    next
 }
 
-fn put_nothing(out: &mut [u8], at: usize, node: u8) -> usize
-    requires { at + 11 ≤ length out.old }
-    ensures { Puts out.old at (nothing_text node) out.new result × (result ≤ at + 11) }
+#[tactic(auto, using(crate::proofs::Choices::separator_length))]
+fn put_nothing(page: &mut Page<'_>, node: u8)
+    requires { HasRoom page.old 11 }
+    ensures { Writes page.old page.new (nothing_text node) × (page.new.len ≤ page.old.len + 11) }
 {
     if may_end(node) {
         let before = choices_up_to(node, EDGE_COUNT);
-        let after = put_separator(out, at, before, before + 1);
-        return put_text(out, after, b"nothing");
+        put_separator(page, before, before + 1);
+        page.put_text(b"nothing");
     }
-    at
 }
 
 // What is expected at this place of the grammar.
-pub(crate) fn put_expected_at(out: &mut [u8], at: usize, node: u8) -> usize
-    requires { at + 414 ≤ length out.old }
-    ensures { Puts out.old at (expected_at node) out.new result × (result ≤ at + 414) }
+#[tactic(auto, unfolding(words::specs::Faults::expected_at))]
+pub(crate) fn put_expected_at(page: &mut Page<'_>, node: u8)
+    requires { HasRoom page.old 414 }
+    ensures { Writes page.old page.new (expected_at node) × (page.new.len ≤ page.old.len + 414) }
 {
     if node == 0 {
-        return put_text(out, at, b"a step");
+        page.put_text(b"a step");
+    } else if node == RAW_NODE {
+        page.put_text(b"32 hex digits");
+    } else if slot_at(node).is_some() {
+        page.put_text(b"a number");
+    } else {
+        put_choices(page, node);
+        put_nothing(page, node);
     }
-    if node == RAW_NODE {
-        return put_text(out, at, b"32 hex digits");
-    }
-    let slot = slot_at(node);
-    if slot.width != 0 {
-        return put_text(out, at, b"a number");
-    }
-    let after = put_choices(out, at, node);
-    put_nothing(out, after, node)
 }

@@ -1,70 +1,106 @@
--- The first line of what is left of a list, byte by byte: the bytes so far stand ahead of the lines that follow. Assumes nothing.
-use Rattle.std.proofs.Common.{ℕ, suc, ◌+◌, ◌-◌, ◌≤◌, ◌<◌, ◌≡◌, refl, sym, ap, ◌∙◌, Bool, true, false, cond, List, [], ◌∷◌, ◌++◌, append-nil, append_assoc, eqb, length, get_or, take, drop, length-drop, drop_of_length-le, add-one, arith}
-use Rattle.std.proofs.Math.Seq.{drop-cons, take-suc, get_or-drop}
-use Rattle.names.specs.Names.{ahead, lines_of, matches, first_match}
+-- The first line of a list, and the number that a line begins with, by how many bytes they are. Assumes nothing.
+use Rattle.std.proofs.Common.{ℕ, suc, ◌+◌, ◌-◌, ◌*◌, ◌≤◌, ◌<◌, min, ◌≡◌, ◌==◌, refl, ap, ◌∙◌, Bool, true, false, List, [], ◌∷◌, eqb, ltb, length, get_or, take, drop, arith, drop_of_length-le, length-drop, leb, add-one, Some, None, Option, ◌&&◌, lt-ltb}
+use Rattle.std.specs.Option.{SomeIff, option_eq}
+use Rattle.std.proofs.Math.Seq.{drop-cons, take-length}
+use borrow.Author.Tests.{leb-true, leb-false}
+use Rattle.std.specs.List.{prefix_len, position_or_len, list_all, starts_with}
+use Rattle.names.specs.Names.{ahead, is_digit, digits_in, behind_digits, number_on, number_of, lines_of, matches, first_match}
 
--- where a line is there, nothing ahead of it changes nothing
-none_by :
-    (newline : Bool) (b : ℕ) (lines : List (List ℕ))
-    → ahead [] (cond newline ([] ∷ lines) (ahead (b ∷ []) lines)) ≡ cond newline ([] ∷ lines) (ahead (b ∷ []) lines)
-none_by true b lines = refl
-none_by false b [] = refl
-none_by false b (line ∷ lines) = refl
+-- ---- the first line of a list ends at the first newline, or where the list does
 
-ahead_none : (b : ℕ) (list : List ℕ) → ahead [] (lines_of (b ∷ list)) ≡ lines_of (b ∷ list)
+abbrev pub line_end : List ℕ → ℕ
+line_end list = position_or_len (λ b. b == 10) list
+
+first_by :
+    (newline : Bool) (b : ℕ) (list : List ℕ) → eqb b 10 ≡ newline
+    → (0 < length list → lines_of list ≡ take (line_end list) list ∷ lines_of (drop (line_end list + 1) list))
+    → lines_of (b ∷ list) ≡ take (line_end (b ∷ list)) (b ∷ list) ∷ lines_of (drop (line_end (b ∷ list) + 1) (b ∷ list))
 unfolding lines_of
-ahead_none b list = none_by (eqb b 10) b (lines_of list)
+first_by true b list e h = rw e refl
+first_by false b [] e h = rw e refl
+first_by false b (c ∷ list) e h =
+    let end = line_end (c ∷ list) in
+    let one : 1 + end ≡ suc end = omega arith in
+    let two : suc end + 1 ≡ suc (end + 1) = omega arith in
+    rw (e, one, two) (ap (ahead (b ∷ [])) (h (omega arith)))
 
--- one byte more stands ahead
-ahead_both : (front : List ℕ) (b : ℕ) (lines : List (List ℕ)) → ahead front (ahead (b ∷ []) lines) ≡ ahead (front ++ (b ∷ [])) lines
-ahead_both front b [] = refl
-ahead_both front b (line ∷ lines) = ap (λ (l : List ℕ). l ∷ lines) (sym (append_assoc front (b ∷ []) line))
+pub first_line : (list : List ℕ) → 0 < length list → lines_of list ≡ take (line_end list) list ∷ lines_of (drop (line_end list + 1) list)
+first_line [] h = absurd (omega arith)
+first_line (b ∷ list) h = first_by (eqb b 10) b list refl (first_line list)
 
-module _ (list : List ℕ) (i : ℕ) (here : i < length list) where
-  pub opened_line : drop i list ≡ get_or list i 0 ∷ drop (i + 1) list
-  opened_line = rw (add-one i) (drop-cons list i 0 here)
+drop_by : (few : Bool) (list : List ℕ) (n held : ℕ) → leb n (length list) ≡ few → held ≡ min (length list) n → drop held list ≡ drop n list
+drop_by true list n held f e = let same : held ≡ n = omega (arith, leb-true n (length list) f) in rw same refl
+drop_by false list n held f e =
+    let more = leb-false n (length list) f in
+    let h : length list ≤ held = omega arith in
+    let l : length list ≤ n = omega arith in
+    rw (drop_of_length-le list h, drop_of_length-le list l) refl
 
-  pub line_begun : lines_of (drop i list) ≡ ahead (take (i - i) (drop i list)) (lines_of (drop i list))
-  line_begun =
-      let none : i - i ≡ 0 = omega arith in
-      rw (none, opened_line) (sym (ahead_none (get_or list i 0) (drop (i + 1) list)))
+drop_held : (list : List ℕ) (n held : ℕ) → held ≡ min (length list) n → take (length list - held) (drop held list) ≡ drop n list
+drop_held list n held e = rw (← length-drop held list, take-length (drop held list)) (drop_by (leb n (length list)) list n held refl e)
 
-  -- the line goes on
-  pub line_longer :
-      (from : ℕ) → from ≤ i → eqb (get_or list i 0) 10 ≡ false
-      → lines_of (drop from list) ≡ ahead (take (i - from) (drop from list)) (lines_of (drop i list))
-      → lines_of (drop from list) ≡ ahead (take (i + 1 - from) (drop from list)) (lines_of (drop (i + 1) list))
-  unfolding lines_of
-  line_longer from l other e =
-      let b = get_or list i 0 in
-      let one : i + 1 - from ≡ suc (i - from) = omega arith in
-      let place : from + (i - from) ≡ i = omega arith in
-      let room : i - from < length (drop from list) = rw (length-drop from list) (omega arith) in
-      let byte : get_or (drop from list) (i - from) 0 ≡ b = get_or-drop from list (i - from) 0 ∙ ap (λ (k : ℕ). get_or list k 0) place in
-      let more : lines_of (drop i list) ≡ ahead (b ∷ []) (lines_of (drop (i + 1) list)) = rw (opened_line, other) in
-      rw (one, take-suc (drop from list) (i - from) 0 room, byte)
-      (e ∙ ap (ahead (take (i - from) (drop from list))) more ∙ ahead_both (take (i - from) (drop from list)) b (lines_of (drop (i + 1) list)))
+pub line_split_off :
+    (list : List ℕ) (end next : ℕ) → end ≡ line_end list → next ≡ min (length list) (end + 1) → 0 < length list
+    → (lines_of list ≡ take end list ∷ lines_of (take (length list - next) (drop next list))) × (length (take (length list - next) (drop next list)) < length list)
+line_split_off list end next e n h =
+    let tail = drop_held list (end + 1) next n in
+    let length_more : length (drop (end + 1) list) ≡ length list - (end + 1) = length-drop (end + 1) list in
+    rw tail (first_line list h ∙ rw e refl, omega (arith, length_more))
 
-  -- or has ended at its newline
-  pub line_ended_lem :
-      (from : ℕ) → eqb (get_or list i 0) 10 ≡ true
-      → lines_of (drop from list) ≡ ahead (take (i - from) (drop from list)) (lines_of (drop i list))
-      → lines_of (drop from list) ≡ take (i - from) (drop from list) ∷ lines_of (drop (i + 1) list)
-  unfolding lines_of
-  line_ended_lem from newline e =
-      let front = take (i - from) (drop from list) in
-      let next : lines_of (drop i list) ≡ [] ∷ lines_of (drop (i + 1) list) = rw (opened_line, newline) in
-      e ∙ ap (ahead front) next ∙ ap (λ (l : List ℕ). l ∷ lines_of (drop (i + 1) list)) (append-nil front)
+-- ---- the number of digits
 
--- or at the list's end
-pub line_last :
-    (list : List ℕ) (i from : ℕ) → length list ≤ i
-    → lines_of (drop from list) ≡ ahead (take (i - from) (drop from list)) (lines_of (drop i list))
-    → lines_of (drop from list) ≡ take (i - from) (drop from list) ∷ lines_of (drop (i + 1) list)
-unfolding lines_of
-line_last list i from h e =
-    let next : length list ≤ i + 1 = omega arith in
-    e ∙ rw (drop_of_length-le list h, drop_of_length-le list next)
+-- digits written behind a number make it no smaller
+pub number_grows : (n : ℕ) (digits : List ℕ) → n ≤ number_on n digits
+unfolding number_on
+number_grows n [] = omega arith
+number_grows n (digit ∷ digits) = omega (arith, number_grows (10 * n + (digit - 48)) digits)
+
+pub number_more : (digits : List ℕ) (i n : ℕ) → i < length digits → number_on n (drop i digits) ≡ number_on (10 * n + (get_or digits i 0 - 48)) (drop (i + 1) digits)
+unfolding number_on
+number_more digits i n here = rw (add-one i, drop-cons digits i 0 here)
+
+pub number_large : (digits : List ℕ) (i n : ℕ) → i < length digits → number_on n (drop i digits) ≡ number_of digits → 256 ≤ 10 * n + (get_or digits i 0 - 48) → 256 ≤ number_of digits
+number_large digits i n here e h = omega (arith, number_more digits i n here, number_grows (10 * n + (get_or digits i 0 - 48)) (drop (i + 1) digits))
+
+pub number_end : (digits : List ℕ) (i n : ℕ) → length digits ≤ i → number_on n (drop i digits) ≡ n
+unfolding number_on
+number_end digits i n h = rw (drop_of_length-le digits h)
+
+-- ---- the digits that a line begins with
+
+digits_by :
+    (digit : Bool) (b : ℕ) (line : List ℕ) → is_digit b ≡ digit
+    → (digits_in line ≡ take (prefix_len is_digit line) line) × (behind_digits line ≡ drop (prefix_len is_digit line) line) × (list_all is_digit (digits_in line) ≡ true)
+    → (digits_in (b ∷ line) ≡ take (prefix_len is_digit (b ∷ line)) (b ∷ line)) × (behind_digits (b ∷ line) ≡ drop (prefix_len is_digit (b ∷ line)) (b ∷ line)) × (list_all is_digit (digits_in (b ∷ line)) ≡ true)
+unfolding digits_in behind_digits
+digits_by true b line e h =
+    let one : 1 + prefix_len is_digit line ≡ suc (prefix_len is_digit line) = omega arith in
+    rw (e, one) (ap (λ (l : List ℕ). b ∷ l) h.0, h.1, rw e h.2)
+digits_by false b line e h = rw e (refl, refl, refl)
+
+pub digits_taken : (line : List ℕ) → (digits_in line ≡ take (prefix_len is_digit line) line) × (behind_digits line ≡ drop (prefix_len is_digit line) line) × (list_all is_digit (digits_in line) ≡ true)
+unfolding digits_in behind_digits
+digits_taken [] = (refl, refl, refl)
+digits_taken (b ∷ line) = digits_by (is_digit b) b line refl (digits_taken line)
+
+pub digits_only : (line : List ℕ) (n : ℕ) → n ≡ prefix_len is_digit line → list_all is_digit (take n line) ≡ true
+digits_only line n e = rw (e, ← (digits_taken line).0) (digits_taken line).2
+
+same_number : (o : Option ℕ) (object n k : ℕ) → SomeIff o ((0 < n) × (k < 256)) k → object < 256 → option_eq eqb o (Some object) ≡ (ltb 0 n && eqb k object)
+same_number None object n k h few = grind arith
+same_number (Some x) object n k h few = rw (h.1, lt-ltb 0 n h.0.0) refl
+
+space_next : (bytes : List ℕ) → starts_with eqb bytes (32 ∷ []) ≡ eqb (get_or bytes 0 0) 32
+space_next [] = refl
+space_next (b ∷ bytes) = grind arith
+
+pub line_matches :
+    (object n : ℕ) (line digits behind : List ℕ) (o : Option ℕ) → object < 256 → n ≡ prefix_len is_digit line → digits ≡ take n line → behind ≡ drop n line
+    → SomeIff o ((0 < length digits) × (number_of digits < 256)) (number_of digits)
+    → matches object line ≡ (option_eq eqb o (Some object) && starts_with eqb behind (32 ∷ []))
+unfolding matches
+line_matches object n line digits behind o few e d b h =
+    rw ((digits_taken line).0, (digits_taken line).1, ← e, ← d, ← b, same_number o object (length digits) (number_of digits) h few, space_next behind) refl
 
 -- ---- one line more is looked at
 
@@ -81,10 +117,6 @@ unfolding first_match
 match_later object e m = rw (e, m)
 
 -- all have been
-pub match_none : (list : List ℕ) (from object : ℕ) → length list ≤ from → first_match object (lines_of (drop from list)) ≡ []
+pub match_none : (list : List ℕ) (object : ℕ) → list ≡ [] → first_match object (lines_of list) ≡ []
 unfolding lines_of first_match
-match_none list from object h = rw (drop_of_length-le list h)
-
-pub empty_line : (line : List ℕ) → length line ≤ 0 → line ≡ []
-empty_line [] h = refl
-empty_line (b ∷ line) h = absurd (omega arith)
+match_none list object h = rw h

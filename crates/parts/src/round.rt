@@ -1,6 +1,5 @@
 // Rounds: their phases, what they ask and tell, answers, the closure test, the largest quiesce time, the count of answers.
-ghost use Rattle.std.specs.Prelude.{ℕ, ◌+◌, ◌*◌, ◌≤◌, ◌<◌, ◌≡◌, cond, eqb, get_or};
-ghost use Rattle.std.specs.List.{list_all, range_with_len};
+ghost use Rattle.std.specs.Prelude.{ℕ, ◌+◌, ◌*◌, ◌≤◌, ◌<◌, ◌≡◌, cond, get_or};
 ghost use Rattle.rules.specs.Tables.{no_round};
 ghost use Rattle.rules.specs.Parts.{is_phase_one, is_phase_two, with_phase, asked_of, told_of, asked_status, told_status, asks_life, tells_life, has_answered, with_answer, opened_round, figures_at, received_at, is_closed, largest_quiesce, answer_count};
 ghost use Rattle.parts.specs.Balances.{balance_of, balances_next, quiesce_of};
@@ -167,13 +166,6 @@ fn received_by(round: &Round, d: usize) -> u32
     answer_of(round, d).map_or(0, |f| u32::from(f.received))
 }
 
-// Whether every site received what was sent to it.
-fn all_met(round: &Round, balances: &[u32; 8]) -> bool
-    ensures { result ≡ list_all (λ d. eqb (get_or balances.now d 0) (received_at round.now d)) (range_with_len 0 8) }
-{
-    (0..8).all(|d| balances[d] == received_by(round, d))
-}
-
 // The closure test: for every site, the calls sent to it by the answering sites are those that it received.
 pub fn is_closed(round: Round) -> bool
     ensures { result ≡ is_closed round }
@@ -182,7 +174,7 @@ pub fn is_closed(round: Round) -> bool
     for s in 0..8 {
         balances = balances_next(&round, s, balances);
     }
-    all_met(&round, &balances)
+    (0..8).all(|d| balances[d] == received_by(&round, d))
 }
 
 // The quiesce time in the answer of site s, if it has answered.
@@ -197,11 +189,7 @@ fn quiesce_by(round: &Round, s: usize) -> u32
 pub fn largest_quiesce(round: Round) -> u32
     ensures { result ≡ largest_quiesce round }
 {
-    let mut most = 0;
-    for s in 0..8 {
-        most = most.max(quiesce_by(&round, s));
-    }
-    most
+    (0..8).fold(0, |most, s| most.max(quiesce_by(&round, s)))
 }
 
 // The count of ones in the answered mask: the sites that have answered, home with them.

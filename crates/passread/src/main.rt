@@ -2,11 +2,12 @@
 // Nothing else is decided here.
 #![tactic(auto)]
 
-ghost use Rattle.std.specs.Prelude.{◌≤◌, length, IfOk};
+ghost use Rattle.std.specs.Prelude.{◌≤◌, length};
 
+use filling::fill;
 use std::env::Env;
 use std::io;
-use std::io::{Read, Write};
+use std::io::Write;
 use telling::{tell, tell_plain};
 
 // Whether the first argument is `--plain`; a longer one is another word.
@@ -16,24 +17,6 @@ fn wants_plain(rt: &HostRuntime) -> bool {
         Ok(n) => n == 7 && word == *b"--plain",
         Err(_) => false,
     }
-}
-
-// Fills the buffer as far as the input goes.
-fn fill(input: &mut impl Read, buf: &mut [u8]) -> io::Result<usize>
-    ensures { IfOk result (λ n. n ≤ length buf.new) }
-{
-    let mut done = 0;
-    for _ in 0..u64::MAX {
-        if done == buf.len() {
-            break;
-        }
-        let n = input.read(&mut buf[done..])?;
-        if n == 0 {
-            break;
-        }
-        done += n;
-    }
-    Ok(done)
 }
 
 fn put_text(is_plain: bool, sheet: &[u8], out: &mut [u8; 524288]) -> usize

@@ -1,12 +1,10 @@
 -- What passwrite answers by how reading stopped, and that a text of one or two bytes has no mark. Assumes nothing.
 use Rattle.std.specs.Prelude.{Option, Some, None, MatchOption, ℕ, ◌+◌, ◌≤◌, ◌≡◌, refl, Bool, true, false, ◌&&◌, List, [], ◌∷◌, ◌++◌, eqb, length, take, drop}
-use Rattle.std.proofs.Common.{sym, ap, ◌∙◌}
 use denote.Ref.{Bor}
 use Rattle.std.specs.Option.{unwrap_or}
 use Rattle.std.specs.Cmp.Lexicographic.{pointwise}
 use Rattle.words.specs.declared.scan.Fault.{Fault}
 use Rattle.words.specs.declared.scan.Reader.{Reader}
-use Rattle.buffer.specs.Text.{Puts}
 use Rattle.words.specs.Scan.{unread, reader_next, read_all, text_read}
 use Rattle.words.proofs.ReadLaws.{reader_whole}
 use Rattle.std.proofs.Math.Seq.{take_all}
@@ -23,14 +21,12 @@ pub sheet_taken :
 unfolding answer_text
 sheet_taken text e = rw e
 
--- a text that is refused: its line is put
-pub refused_puts :
-    (text : List ℕ) (r : Reader) {buf after : List ℕ} {f : Fault} {x : ℕ} → r ≡ (text_read text).reader → r.stop ≡ Some f
-    → Puts buf 0 (fault_line (r.lines + 1) f (line_behind r.lines text)) after x
-    → Puts buf 0 (answer_text text) after x
+-- a text that is refused has the line that names what is wrong
+pub refused_line :
+    (text : List ℕ) (r : Reader) (f : Fault) → r ≡ (text_read text).reader → r.stop ≡ Some f
+    → fault_line (r.lines + 1) f (line_behind r.lines text) ≡ answer_text text
 unfolding answer_text
-refused_puts text r e s p =
-    rw (ap (λ (y : Reader). y.stop) (sym e) ∙ s) (rw e at p)
+refused_line text r f e s = rw (← e, s)
 
 three_tests : (a b c : Bool) → (a && (b && (c && true))) ≡ ((a && b) && c)
 three_tests true true true = refl

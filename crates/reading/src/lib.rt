@@ -5,12 +5,13 @@
 mod reader;
 
 ghost use Rattle.std.specs.Prelude.{◌+◌, ◌*◌, ◌≤◌, ◌<◌, ◌≡◌, length};
+ghost use Rattle.buffer.specs.Page.{HasRoom, Writes};
 ghost use Rattle.buffer.specs.Text.{Puts};
 ghost use Rattle.words.specs.Scan.{reader_next, given, text_read};
 ghost use Rattle.words.specs.Sheets.{trailer_of, answer_text, unmarked, sheet_text};
 
 use crate::reader::{gives_record, reader_next, unread};
-use buffer::put_text;
+use buffer::Page;
 use faults::named::put_fault_line;
 use scanning::line::end_of;
 use words::scan::Reader;
@@ -28,51 +29,51 @@ fn read_text(text: &[u8]) -> Reader
 }
 
 // The record that this byte gives, if it gives one, behind the records so far.
-fn put_given(r: Reader, b: u8, out: &mut [u8], at: usize) -> usize
-    requires { (at ≡ 16 * r.count) × (65520 ≤ length out.old) }
-    ensures { Puts out.old at (given r b) out.new result × (result ≡ 16 * (reader_next r b).count) }
+#[tactic(auto, using(buffer::proofs::Pages::writes_nothing, words::proofs::ReadLaws::next_count, words::proofs::ReadLaws::gives_room), unfolding(words::specs::Scan::given))]
+fn put_given(page: &mut Page<'_>, r: Reader, b: u8)
+    requires { (page.old.len ≡ 16 * r.count) × (65520 ≤ length page.old.out.now) }
+    ensures { Writes page.old page.new (given r b) × (page.new.len ≡ 16 * (reader_next r b).count) }
 {
     if gives_record(r, b) {
-        return put_text(out, at, &end_of(r.scan).bytes);
+        page.put_text(&end_of(r.scan).bytes);
     }
-    at
 }
 
-// All records of a text.
-fn put_records(text: &[u8], out: &mut [u8]) -> usize
-    requires { 65520 ≤ length out.old }
-    ensures { Puts out.old 0 (text_read text.now).records out.new result × (result ≤ 65520) }
+// All records of a text, at the front of the page.
+fn put_records(page: &mut Page<'_>, text: &[u8])
+    requires { (page.old.len ≡ 0) × HasRoom page.old 65520 }
+    ensures { Writes page.old page.new (text_read text.now).records × (page.new.len ≤ 65520) }
 {
     let mut r = unread();
-    let mut at = 0;
     for b in text {
-        at = put_given(r, *b, out, at);
+        put_given(page, r, *b);
         r = reader_next(r, *b);
     }
-    put_given(r, b'\n', out, at)
+    put_given(page, r, b'\n');
 }
 
 // The distance in four bytes, and the mark.
-fn put_trailer(out: &mut [u8], at: usize) -> usize
-    requires { at + 8 ≤ length out.old }
-    ensures { Puts out.old at (trailer_of at) out.new result }
+fn put_trailer(page: &mut Page<'_>)
+    requires { HasRoom page.old 8 × (page.old.len ≤ 65520) }
+    ensures { Writes page.old page.new (trailer_of page.old.len) }
 {
-    let [a, b, c, d, ..] = at.to_le_bytes();
-    let bytes = [a, b, c, d, b'P', b'A', b'S', b'S'];
-    put_text(out, at, &bytes)
+    let distance = page.len() as u32;
+    page.put_text(&distance.to_le_bytes());
+    page.put_text(b"PASS");
 }
 
 // The sheet that a text makes, or the first bad line by its number and what is wrong.
-fn put_answer(text: &[u8], out: &mut [u8; 65536]) -> usize
-    ensures { Puts out.old 0 (answer_text text.now) out.new result × (result ≤ length out.new) }
+fn put_answer(page: &mut Page<'_>, text: &[u8])
+    requires { (page.old.len ≡ 0) × HasRoom page.old 65536 }
+    ensures { Writes page.old page.new (answer_text text.now) }
 {
     let r = read_text(text);
     match r.stop {
         None => {
-            let at = put_records(text, out);
-            put_trailer(out, at)
+            put_records(page, text);
+            put_trailer(page);
         }
-        Some(f) => put_fault_line(out, text, r.lines, f),
+        Some(f) => put_fault_line(page, text, r.lines, f),
     }
 }
 
@@ -85,11 +86,15 @@ fn unmarked(text: &[u8]) -> &[u8]
 
 // The sheet that a text of words makes, at the front of the caller's buffer, or the line that names what is wrong.
 // The answer is its length. The bytes behind it stay as they were.
+#[tactic(auto, using(buffer::proofs::Pages::puts_from_front), unfolding(words::specs::Sheets::sheet_text))]
 pub fn put_sheet(text: &[u8], out: &mut [u8; 65536]) -> usize
     ensures { Puts out.old 0 (sheet_text text.now) out.new result × (result ≤ length out.new) }
 {
+    let mut page = Page::new(out);
     if 524288 < text.len() {
-        return put_text(out, 0, b"text too long\n");
+        page.put_text(b"text too long\n");
+        return page.len();
     }
-    put_answer(unmarked(text), out)
+    put_answer(&mut page, unmarked(text));
+    page.len()
 }

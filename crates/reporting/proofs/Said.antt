@@ -1,5 +1,5 @@
 -- What is said of a request, by what was tried. Assumes nothing.
-use Rattle.std.proofs.Common.{◌/◌, ◌≡◌, ◌≢◌, ◌||◌, refl, true, false, List, ℕ, length, Ok, Err}
+use Rattle.std.proofs.Common.{◌/◌, ◌≡◌, ◌≢◌, ◌||◌, refl, true, false, Some, None, List, ℕ, length, Ok, Err}
 use Rattle.rules.specs.declared.tables.Tables.{Tables}
 use Rattle.rules.specs.declared.steps.SheetRefusal.{SheetRefusal}
 use Rattle.rules.specs.Types.{SheetAnswer}
@@ -17,14 +17,17 @@ use Rattle.reporting.specs.Report.{cleared_told, objects_in, taken_by, is_too_lo
 -- a sheet that is not taken has one line, with its number
 refused_by_lem : (a : SheetAnswer) (text : List ℕ) → a ≢ Ok tt → sheet_line (sheet_number a) ≡ taken_by a text
 refused_by_lem (Ok u) text h = absurd (h refl)
-refused_by_lem (Err r) text h = refl
+refused_by_lem (Err SheetRefusal.TooLong) text h = refl
+refused_by_lem (Err SheetRefusal.TooShort) text h = refl
+refused_by_lem (Err SheetRefusal.BadMark) text h = refl
+refused_by_lem (Err SheetRefusal.BadDistance) text h = refl
 
 module _ (text station company sheet : List ℕ) where
-  pub said_unread : (request_of text).read ≡ false → text_bytes "request not read\n" ≡ report_of text station company sheet
+  pub said_unread : request_of text ≡ None → text_bytes "request not read\n" ≡ report_of text station company sheet
   unfolding report_of
   said_unread r = rw r
 
-  module _ (r : (request_of text).read ≡ true) where
+  module _ (request : Request) (r : request_of text ≡ Some request) where
     pub said_long : (is_too_long station || is_too_long company) ≡ true → text_bytes "list too long\n" ≡ report_of text station company sheet
     unfolding report_of
     said_long l = rw (r, l)
@@ -37,8 +40,7 @@ module _ (text station company sheet : List ℕ) where
       said_refused a e h = rw (r, l, ← e) (refused_by_lem a _ h)
 
       pub said_cleared :
-          (request : Request) (part : List ℕ) (t : Tables) (c : Cleared) → sheet_answer sheet ≡ Ok tt
-          → request ≡ request_of text
+          (part : List ℕ) (t : Tables) (c : Cleared) → sheet_answer sheet ≡ Ok tt
           → part ≡ sheet_records sheet
           → t ≡ run_records_of start (records_up_to part (length part / 16))
           → c
@@ -46,4 +48,4 @@ module _ (text station company sheet : List ℕ) where
           request.release
           → cleared_told station company (objects_in request) c ≡ report_of text station company sheet
       unfolding report_of
-      said_cleared request part t c taken eq ep et ec = rw (r, l, taken, ec, et, ep, eq)
+      said_cleared part t c taken ep et ec = rw (r, l, taken, ec, et, ep)

@@ -1,5 +1,5 @@
 -- What ./clearance prints: one definition over the words of the request, the two lists and the sheet, each any bytes. Assumes nothing.
-use Rattle.std.specs.Prelude.{ℕ, zero, suc, ◌/◌, Bool, cond, not, ◌&&◌, ◌||◌, List, [], ◌∷◌, ◌++◌, ltb, eqb, length, get_or, take, Ok, Err}
+use Rattle.std.specs.Prelude.{ℕ, zero, suc, ◌/◌, Bool, cond, ◌&&◌, ◌||◌, List, [], ◌∷◌, ◌++◌, ltb, eqb, length, get_or, take, Option, Some, None, Ok, Err}
 use Rattle.rules.specs.declared.steps.Step.{Step}
 use Rattle.rules.specs.declared.steps.SheetRefusal.{SheetRefusal}
 use Rattle.rules.specs.Types.{SheetAnswer}
@@ -84,16 +84,21 @@ checked_after part request =
 
 abbrev pub taken_by : SheetAnswer → List ℕ → List ℕ
 taken_by (Ok u) text = text
-taken_by (Err r) text = sheet_line (sheet_number (Err r))
+taken_by (Err SheetRefusal.TooLong) text = sheet_line (sheet_number (Err SheetRefusal.TooLong))
+taken_by (Err SheetRefusal.TooShort) text = sheet_line (sheet_number (Err SheetRefusal.TooShort))
+taken_by (Err SheetRefusal.BadMark) text = sheet_line (sheet_number (Err SheetRefusal.BadMark))
+taken_by (Err SheetRefusal.BadDistance) text = sheet_line (sheet_number (Err SheetRefusal.BadDistance))
 
 -- "over 16,384 bytes"
 abbrev pub is_too_long : List ℕ → Bool
 is_too_long list = ltb 16384 (length list)
 
 -- "Tried in this order: request not read, list too long, sheet N, refused N NAME."
+abbrev pub told_of : Option Request → List ℕ → List ℕ → List ℕ → List ℕ
+told_of None station company sheet = text_bytes "request not read\n"
+told_of (Some request) station company sheet =
+    cond (is_too_long station || is_too_long company) (text_bytes "list too long\n")
+    (taken_by (sheet_answer sheet) (cleared_told station company (objects_in request) (checked_after (sheet_records sheet) request)))
+
 unfoldable pub report_of : List ℕ → List ℕ → List ℕ → List ℕ → List ℕ
-report_of text station company sheet =
-    let request : Request = request_of text in
-    cond (not request.read) (text_bytes "request not read\n")
-    (cond (is_too_long station || is_too_long company) (text_bytes "list too long\n")
-    (taken_by (sheet_answer sheet) (cleared_told station company (objects_in request) (checked_after (sheet_records sheet) request))))
+report_of text station company sheet = told_of (request_of text) station company sheet

@@ -9,7 +9,7 @@ ghost use Rattle.reporting.specs.Report.{name_for, own_name, own_told, width_tol
 
 use answers::refusal_number;
 use buffer::{put_byte, put_digits, put_sheet_line, put_text};
-use clearing::{Cleared, OwnRefusal, Verdict, clear};
+use clearing::{Cleared, Inquiry, OwnRefusal, Verdict, clear};
 use names::line_for;
 use requests::read_request;
 use rules::outcomes::Refusal;
@@ -125,7 +125,7 @@ fn put_read<'a>(
     requires { (length station.now ≤ 16384) × (length company.now ≤ 16384) × (at + 16390 ≤ length out.old) }
     ensures { Puts out.old at (read_told station.now company.now objects.now c) out.new result × (result ≤ at + 16390) }
 {
-    let begun = c.begun;
+    let begun = c.passage.is_some();
     let read = c.read;
     if !begun {
         return at;
@@ -205,10 +205,9 @@ pub fn report<'a>(
 ) -> usize
     ensures { Puts out.old 0 (report_of text.now station.now company.now sheet.now) out.new result × (result ≤ length out.new) }
 {
-    let request = read_request(text);
-    if !request.read {
+    let Some(request) = read_request(text) else {
         return put_text(out, 0, b"request not read\n");
-    }
+    };
     if is_too_long(station) | is_too_long(company) {
         return put_text(out, 0, b"list too long\n");
     }
@@ -220,15 +219,15 @@ pub fn report<'a>(
     let objects = request.objects;
     let count = request.count;
     let list = &objects[..count];
-    let c = clear(
-        tables,
-        request.beam,
-        request.margin,
-        list,
-        request.home,
-        request.slot,
-        request.quiesce,
-        request.release,
-    );
+    let inquiry = Inquiry {
+        beam: request.beam,
+        margin: request.margin,
+        objects: list,
+        home: request.home,
+        slot: request.slot,
+        quiesce: request.quiesce,
+        release: request.release,
+    };
+    let c = clear(tables, &inquiry);
     put_cleared(out, station, company, list, c)
 }

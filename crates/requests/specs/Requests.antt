@@ -2,7 +2,7 @@
 -- "The words stand in the order shown, each once. Numbers are decimal, at most 4,294,967,295; home, slot and an object above 255 count as 255.
 -- Anything else: `request not read`. `objects` with none behind it is an empty list; of more than nine the first nine are handed on."
 -- The order shown: beam 11500 margin 400 home 0 slot 2 quiesce 500 release 600 objects 4 8 0
-use Rattle.std.specs.Prelude.{ℕ, ◌+◌, ◌*◌, ◌-◌, min, Bool, true, false, cond, ◌&&◌, List, [], ◌∷◌, ◌++◌, map, leb, ltb, eqb, length, get_or, take, drop, replicate}
+use Rattle.std.specs.Prelude.{ℕ, ◌+◌, ◌*◌, ◌-◌, min, Bool, true, false, cond, ◌&&◌, List, [], ◌∷◌, ◌++◌, map, leb, ltb, eqb, length, get_or, take, drop, replicate, Option, Some, None}
 use Prim.Native.Char.{code}
 use Prim.Native.String.{String, [] as no_more, ◌∷◌ as ◌then◌}
 use Rattle.requests.specs.declared.Request.{Request}
@@ -101,7 +101,6 @@ first_nine objects = take 9 (objects ++ replicate 9 0)
 unfoldable pub asked : List (List ℕ) → Request
 asked words =
     record {
-      read = true;
       beam = number_of (word_at 1 words);
       margin = number_of (word_at 3 words);
       home = byte_of (word_at 5 words);
@@ -113,19 +112,5 @@ asked words =
     }
 
 -- what is not read asks nothing
-abbrev pub no_request : Request
-no_request =
-    record {
-      read = false;
-      beam = 0;
-      margin = 0;
-      home = 0;
-      slot = 0;
-      quiesce = 0;
-      release = 0;
-      objects = replicate 9 0;
-      count = 0;
-    }
-
-unfoldable pub request_of : List ℕ → Request
-request_of text = cond (is_request text) (asked (words_of text)) no_request
+unfoldable pub request_of : List ℕ → Option Request
+request_of text = cond (is_request text) (Some (asked (words_of text))) None

@@ -1,9 +1,10 @@
 -- What the words of a text are, and what is read of some texts. Assumes nothing.
-use Rattle.std.specs.Prelude.{ℕ, ◌<◌, ◌≡◌, refl, Bool, true, false, cond, not, ◌&&◌, List, [], ◌∷◌, ◌++◌, map, eqb, length, replicate}
+use Rattle.std.specs.Prelude.{ℕ, ◌<◌, ◌≡◌, refl, Bool, true, false, cond, not, ◌&&◌, List, [], ◌∷◌, ◌++◌, map, eqb, length, replicate, Option, Some, None, is_some}
 use Prim.Native.String.{String}
 use Rattle.std.proofs.Common.{arith, sym, ap, ◌∙◌, true≢false, eqb-true}
 use Rattle.std.proofs.lemmas.Bool.{not-true}
-use Rattle.requests.specs.Requests.{ahead, words_of, text_bytes, same, all_digits, number_on, is_number, all_numbers, asks, in_order, is_request, asked, no_request, request_of}
+use Rattle.requests.specs.Requests.{ahead, words_of, text_bytes, same, all_digits, number_on, is_number, all_numbers, asks, in_order, asked, request_of}
+use Rattle.requests.specs.declared.Request.{Request}
 
 pub both_true : (a b : Bool) → (a && b) ≡ true → (a ≡ true) × (b ≡ true)
 both_true true b e = (refl, e)
@@ -11,15 +12,13 @@ both_true false b e = absurd (true≢false (sym e))
 
 -- ---- a request that is not read
 
-none_by : (is : Bool) (words : List (List ℕ)) → (cond is (asked words) no_request).read ≡ false → cond is (asked words) no_request ≡ no_request
-unfolding asked
-none_by true words e = absurd (true≢false e)
-none_by false words e = refl
+nothing_by : (r : Option Request) → is_some r ≡ false → r ≡ None
+nothing_by None e = refl
+nothing_by (Some r) e = absurd (true≢false e)
 
--- every number of it is 0
-pub not_read_asks_nothing : (text : List ℕ) → (request_of text).read ≡ false → request_of text ≡ no_request
-unfolding request_of
-not_read_asks_nothing text e = none_by (is_request text) (words_of text) e
+-- it has no number
+pub not_read_asks_nothing : (text : List ℕ) → is_some (request_of text) ≡ false → request_of text ≡ None
+not_read_asks_nothing text e = nothing_by (request_of text) e
 
 -- ---- words and text turn into each other without loss
 
@@ -86,8 +85,7 @@ joined_words word (next ∷ words) e =
 
 pub sample_read :
     request_of (text_bytes "beam 11500 margin 400 home 0 slot 2 quiesce 500 release 600 objects 4 8 0")
-    ≡ record {
-      read = true;
+    ≡ Some (record {
       beam = 11500;
       margin = 400;
       home = 0;
@@ -96,12 +94,12 @@ pub sample_read :
       release = 600;
       objects = 4 ∷ 8 ∷ 0 ∷ 0 ∷ 0 ∷ 0 ∷ 0 ∷ 0 ∷ 0 ∷ [];
       count = 3;
-    }
+    })
 unfolding request_of asked in_order asks same is_number all_numbers all_digits number_on words_of
 sample_read = refl
 
 abbrev read_all : List String → List Bool
-read_all texts = map (λ (text : String). (request_of (text_bytes text)).read) texts
+read_all texts = map (λ (text : String). is_some (request_of (text_bytes text))) texts
 
 -- no object, and one above 255
 pub some_read :

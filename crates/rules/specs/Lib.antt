@@ -1,5 +1,5 @@
 -- The rules of document 01, with what document 02 has changed of them, as definitions in its order and words.
--- Types (names only), then one file a subject. LoopsLaws, AnswersLaws and StoredLaws hold laws about the definitions of their names; all other laws stand in proofs/.
+-- Types (names only), then one file a subject. LoopsLaws, LoopsLists, AnswersLaws and StoredLaws hold laws about the definitions of their names; all other laws stand in proofs/.
 pub mod Types
 pub mod Limits
 pub mod Loops

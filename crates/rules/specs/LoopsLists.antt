@@ -1,17 +1,25 @@
 -- Laws of the loops up to n over the elements of a list, or over the numbers below n: what the library's list functions say of them. Assumes nothing.
-use Rattle.std.specs.Prelude.{◌≡◌, ℕ, zero, suc, ◌+◌, ◌≤◌, Bool, true, false, cond, ◌&&◌, List, [], ◌∷◌, ◌++◌, length, get_or, take, eqb, refl}
+use Rattle.std.specs.Prelude.{◌≡◌, ℕ, zero, suc, ◌+◌, ◌≤◌, ◌<◌, Bool, true, false, cond, ◌&&◌, ◌||◌, List, [], ◌∷◌, ◌++◌, length, get_or, take, eqb, ltb, Some, None, unwrap_or, refl}
 use Rattle.std.specs.List.{fold, list_all, list_any, position_or_len, range_with_len}
-use Rattle.std.proofs.Common.{arith, sym, ◌∙◌, ap, add-one, add-zero, zero-add}
+use Rattle.std.proofs.Common.{arith, sym, ◌∙◌, ap, ap₂, add-one, add-zero, zero-add, ⊎_elim}
+use borrow.Author.Tests.{ltb-false}
 use Rattle.std.proofs.lemmas.List.{take_all, take_more, length-take-le}
 use Rattle.std.proofs.lemmas.List.Folds.{list_all_more, list_any_more, position_or_len_push}
 use Rattle.std.proofs.lemmas.List.Sums.{fold_more}
 use Rattle.std.proofs.lemmas.List.FromFn.{length-range_with_len, get_or-range_with_len}
 use Rattle.rules.specs.Loops.{every_up_to, some_up_to, first_up_to}
-use Rattle.rules.specs.LoopsLaws.{every_same}
+use Rattle.rules.specs.LoopsLaws.{either, every_same, first_le}
 
 step : (here : Bool) (n : ℕ) → cond here n (n + 1) ≡ n + cond here 0 1
 step true n = sym (add-zero n)
 step false n = refl
+
+found : (x n : ℕ) → x ≤ n → unwrap_or (cond (ltb x n) (Some x) None) n ≡ x
+found x n h =
+    ⊎_elim
+    (λ e. rw e refl)
+    (λ e. let l : n ≤ x = ltb-false x n e in rw e (omega arith))
+    (either (ltb x n))
 
 module _ {X : Type 0} (p : X → Bool) (xs : List X) (d : X) where
   every_first : (n : ℕ) → n ≤ length xs → every_up_to (λ k. p (get_or xs k d)) n ≡ list_all p (take n xs)
@@ -52,14 +60,38 @@ module _ {X : Type 0} (p : X → Bool) (xs : List X) (d : X) where
   pub some_list : (n : ℕ) → length xs ≡ n → some_up_to (λ k. p (get_or xs k d)) n ≡ list_any p xs
   some_list n e = some_first n (omega arith) ∙ ap (list_any p) (take_all n xs (omega arith))
 
-  -- the lowest index is the length of what stands before it
-  pub first_list : (n : ℕ) → length xs ≡ n → first_up_to (λ k. p (get_or xs k d)) n ≡ position_or_len p xs
+  first_list : (n : ℕ) → length xs ≡ n → first_up_to (λ k. p (get_or xs k d)) n ≡ position_or_len p xs
   first_list n e = lowest_first n (omega arith) ∙ ap (position_or_len p) (take_all n xs (omega arith))
+
+  -- what the library finds, or n
+  pub first_found :
+      (n : ℕ) → length xs ≡ n
+      → unwrap_or (cond (ltb (position_or_len p xs) (length xs)) (Some (position_or_len p xs)) None) n
+      ≡ first_up_to (λ k. p (get_or xs k d)) n
+  first_found n e =
+      let q : first_up_to (λ k. p (get_or xs k d)) n ≡ position_or_len p xs = first_list n e in
+      let l : first_up_to (λ k. p (get_or xs k d)) n ≤ n = first_le (λ k. p (get_or xs k d)) n in
+      rw (e, q) (found (position_or_len p xs) n (omega arith))
+
+some_same : (p q : ℕ → Bool) (n : ℕ) → ((i : ℕ) → i < n → p i ≡ q i) → some_up_to p n ≡ some_up_to q n
+unfolding some_up_to
+some_same p q zero h = refl
+some_same p q (suc n) h =
+    ap₂ ◌||◌ (some_same p q n (λ i l. h i (omega arith))) (h n (omega arith))
 
 pub every_range : (p : ℕ → Bool) (n : ℕ) → list_all p (range_with_len 0 n) ≡ every_up_to p n
 every_range p n =
     sym (every_list p (range_with_len 0 n) 0 n (length-range_with_len 0 n))
     ∙ every_same
+    (λ k. p (get_or (range_with_len 0 n) k 0))
+    p
+    n
+    (λ k h. ap p (get_or-range_with_len 0 n k 0 h ∙ zero-add k))
+
+pub some_range : (p : ℕ → Bool) (n : ℕ) → list_any p (range_with_len 0 n) ≡ some_up_to p n
+some_range p n =
+    sym (some_list p (range_with_len 0 n) 0 n (length-range_with_len 0 n))
+    ∙ some_same
     (λ k. p (get_or (range_with_len 0 n) k 0))
     p
     n

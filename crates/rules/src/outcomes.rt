@@ -2,24 +2,24 @@
 use crate::looking::Seen;
 use crate::tables::Tables;
 
-// The refusals in the order in which documents 01 and 02 list them. Their numbers are in specs/Answers.antt.
+// The refusals in the order in which documents 01 and 02 list them, with their numbers, as specs/Answers.antt has them.
 #[derive(Clone, Copy)]
 pub enum Refusal {
-    OutOfRange,
-    NoStep,
-    BadField,
-    NotThere,
-    SiteDown,
-    WrongState,
-    NoVisit,
-    ClockFull,
-    Quiesced,
-    WrongRound,
-    Held,
-    Full,
-    NotClosed,
-    NoCallLeft,
-    NoRoundLeft,
+    OutOfRange = 20,
+    NoStep = 1,
+    BadField = 2,
+    NotThere = 3,
+    SiteDown = 4,
+    WrongState = 5,
+    NoVisit = 6,
+    ClockFull = 7,
+    Quiesced = 8,
+    WrongRound = 9,
+    Held = 10,
+    Full = 11,
+    NotClosed = 12,
+    NoCallLeft = 13,
+    NoRoundLeft = 14,
 }
 
 // An accepted step answers a value.

@@ -77,13 +77,13 @@ pub struct Fields {
     pub v: u32,
 }
 
-// The four refusals of a sheet, in their order.
+// The four refusals of a sheet, in their order and with their numbers.
 #[derive(Clone, Copy)]
 pub enum SheetRefusal {
-    TooLong,
-    TooShort,
-    BadMark,
-    BadDistance,
+    TooLong = 1,
+    TooShort = 2,
+    BadMark = 3,
+    BadDistance = 4,
 }
 
 // What a sheet's reader says of it: taken, or refused.

@@ -1,8 +1,8 @@
 // Numbers and words into the bytes of a record.
-ghost use Rattle.std.specs.Prelude.{◌≤◌, ◌≡◌};
+ghost use Rattle.std.specs.Prelude.{◌≤◌, ◌<◌, ◌≡◌, IfSome};
 ghost use Rattle.words.specs.Grammar.{most_in, said, slot_stored};
 
-use words::rows::Slot;
+use words::rows::{Said, Slot};
 
 // The largest number that so many bytes hold.
 pub(crate) fn most_in(width: u8) -> u64
@@ -15,12 +15,13 @@ pub(crate) fn most_in(width: u8) -> u64
     }
 }
 
-// A word's own byte.
-pub(crate) fn said(field: u8, value: u8, bytes: [u8; 16]) -> [u8; 16]
-    ensures { result ≡ said field value bytes }
+// What a word says of the record.
+pub(crate) fn said(says: Option<Said>, bytes: [u8; 16]) -> [u8; 16]
+    requires { IfSome says (λ s. s.field < 16) }
+    ensures { result ≡ said says bytes }
 {
     let mut next = bytes;
-    if field < 16 {
+    if let Some(Said { field, value }) = says {
         next[field as usize] = value;
     }
     next

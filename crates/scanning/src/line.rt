@@ -1,5 +1,5 @@
 // A line under way, one byte more.
-ghost use Rattle.std.specs.Prelude.{◌≤◌, ◌<◌, ◌≡◌, true};
+ghost use Rattle.std.specs.Prelude.{◌≤◌, ◌<◌, ◌≡◌, true, IfSome};
 ghost use Rattle.words.specs.Scan.{blank, wrong, misplaced, followed, word_taken, filled, number_taken, end_of, noted, hex_taken, hex_next, is_letter, is_digit, lettered, numbered, token_begun, byte_by, live_next, scan_next, is_record, ends_at, verdict_of};
 
 use crate::bytes::{hex_value, is_digit, is_hash, is_letter, is_space};
@@ -43,13 +43,14 @@ fn misplaced(s: Scan) -> Scan
 }
 
 fn followed(s: Scan, e: Edge) -> Scan
+    requires { IfSome e.says (λ x. x.field < 16) }
     ensures { result ≡ followed s e }
 {
     Scan {
         mode: Mode::Gap,
         token: 0,
         node: e.to,
-        bytes: said(e.field, e.value, s.bytes),
+        bytes: said(e.says, s.bytes),
         ..s
     }
 }
@@ -86,11 +87,10 @@ fn filled(s: Scan, f: Slot) -> Scan
 fn number_taken(s: Scan) -> Scan
     ensures { result ≡ number_taken s }
 {
-    let f = slot_at(s.node);
-    if f.width == 0 {
-        return misplaced(s);
+    match slot_at(s.node) {
+        Some(f) => filled(s, f),
+        None => misplaced(s),
     }
-    filled(s, f)
 }
 
 // A word or a number, if there is one, has ended.

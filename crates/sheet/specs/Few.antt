@@ -1,7 +1,6 @@
 -- "at most 65,536 bytes": a sheet that is taken has at most 4,095 records. Assumes nothing.
 use Rattle.std.specs.Prelude.{ℕ, ◌/◌, ◌≤◌, ◌≡◌, List, length, Ok}
 use Rattle.std.proofs.Common.{arith}
-use Rattle.rules.specs.Types.{SheetAnswer}
 use Rattle.rules.specs.Sheet.{sheet_answer, sheet_records, distance_of}
 use Rattle.rules.proofs.SheetLaws.{Whole, taken_whole, taken_length}
 

@@ -73,9 +73,6 @@ pub fn sheet_number(answer: SheetAnswer) -> u64
 {
     match answer {
         Ok(()) => 0,
-        Err(SheetRefusal::TooLong) => 1,
-        Err(SheetRefusal::TooShort) => 2,
-        Err(SheetRefusal::BadMark) => 3,
-        Err(SheetRefusal::BadDistance) => 4,
+        Err(refusal) => refusal as u64,
     }
 }

@@ -12,7 +12,8 @@ use Rattle.rules.specs.LoopsLaws.{either, cond_keeps}
 use Rattle.rules.specs.Record.{step_of_record}
 use Rattle.rules.proofs.RecordLaws.{each_row_at, Bytes16, StepFits, read_fits}
 use Rattle.rules.specs.Sheet.{record_at}
-use Rattle.words.specs.Say.{Token, write_tokens, read_tokens, read_value_tokens, other_tokens, operation_tokens, rest_text, step_text, raw_text, record_by, record_text}
+use Rattle.words.specs.declared.tokens.Token.{Token}
+use Rattle.words.specs.Say.{write_tokens, read_tokens, read_value_tokens, other_tokens, operation_tokens, rest_text, step_text, raw_text, record_by, record_text}
 use Rattle.words.proofs.TextLaws.{cond_length, hex_length}
 use Rattle.words.specs.Tell.{refusal_phrases, sheet_phrase, accepted_told, refused_told}
 use Rattle.telling.specs.Numbers.{numbers_told, numbers_told_line}

@@ -2,7 +2,7 @@
 use Rattle.std.specs.Prelude.{Option, None, Some, Ok, Err, ℕ, ◌+◌, ◌*◌, ◌/◌, ◌%◌, ◌≤◌, ◌≡◌, refl, Bool, true, false, cond, ◌&&◌, List, [], ◌∷◌, ltb, eqb, length, get_or}
 use Rattle.std.proofs.Common.{arith, ◌∙◌, ⊎_elim, length-append, length-set}
 use Rattle.rules.specs.LoopsLaws.{either, cond_keeps}
-use Rattle.words.specs.Types.{Slot, Fault, Mode, Scan, Line, Verdict, Reader}
+use Rattle.words.specs.Types.{Said, Slot, Fault, Mode, Scan, Line, Verdict, Reader}
 use Rattle.words.specs.Grammar.{edge_count, edge_of, edge_at, slot_at, most_in, raw_node, said, put_two, put_four, slot_stored}
 use Rattle.words.specs.Scan.{is_space, is_hash, is_letter, is_digit, hex_value, at, blank, wrong, misplaced, followed, word_taken, filled, number_taken, end_by, end_of, noted_by, noted, hex_taken, hex_next, lettered, numbered, token_begun, byte_by, live_next, next_by, scan_next, verdict_of, line_most, record_most, lines_most, reading, stopped, judged, line_ended, byte_read, next_while, reader_next, gives_record, given, Read, unread, read_next, read_all, text_read}
 use Rattle.words.proofs.ReadLaws.{next_count, count_most}
@@ -19,8 +19,9 @@ Long s n = length s.bytes ≡ n
 cond_long : (t : Bool) (x y : Scan) (n : ℕ) → Long x n → Long y n → Long (cond t x y) n
 cond_long t x y n = cond_keeps (λ (s : Scan). Long s n) t x y
 
-said_long : (field value : ℕ) (bytes : List ℕ) → length (said field value bytes) ≡ length bytes
-said_long field value bytes = list_long (ltb field 16) _ bytes (length bytes) (length-set bytes field value) refl
+said_long : (says : Option Said) (bytes : List ℕ) → length (said says bytes) ≡ length bytes
+said_long None bytes = refl
+said_long (Some s) bytes = length-set bytes s.field s.value
 
 stored_long : (f : Slot) (n : ℕ) (bytes : List ℕ) → length (slot_stored f n bytes) ≡ length bytes
 stored_long f n bytes =
@@ -31,7 +32,7 @@ word_long : (s : Scan) → Long (word_taken s) (length s.bytes)
 unfolding word_taken
 word_long s =
     let e = edge_of (edge_at s.node s.token) in
-    cond_long (ltb (edge_at s.node s.token) edge_count) (followed s e) (misplaced s) (length s.bytes) (said_long e.field e.value s.bytes) refl
+    cond_long (ltb (edge_at s.node s.token) edge_count) (followed s e) (misplaced s) (length s.bytes) (said_long e.says s.bytes) refl
 
 number_long : (s : Scan) → Long (number_taken s) (length s.bytes)
 unfolding number_taken

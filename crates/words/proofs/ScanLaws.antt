@@ -92,7 +92,7 @@ place_after node (Token.Word w) = (edge_of (edge_at node w)).to
 place_after node (Token.Number n) = (slot_at node).to
 
 abbrev pub bytes_after : ℕ → Token → List ℕ → List ℕ
-bytes_after node (Token.Word w) bytes = said (edge_of (edge_at node w)).field (edge_of (edge_at node w)).value bytes
+bytes_after node (Token.Word w) bytes = said (edge_of (edge_at node w)).says bytes
 bytes_after node (Token.Number n) bytes = slot_stored (slot_at node) n bytes
 
 abbrev pub Fits : ℕ → Token → Type 0

@@ -1,8 +1,8 @@
 -- The grammar: the words, and two tables that say what may follow what and which field of the record it gives. Assumes nothing.
 -- A line is a path from place 0 to a place at which it may end. Both the reader and the writer go by it.
-use Rattle.std.specs.Prelude.{ℕ, ◌+◌, ◌/◌, ◌%◌, Bool, ◌&&◌, ◌||◌, cond, List, [], ◌∷◌, ltb, eqb, get_or, set}
+use Rattle.std.specs.Prelude.{Option, Some, None, ℕ, ◌+◌, ◌/◌, ◌%◌, Bool, ◌&&◌, ◌||◌, cond, List, [], ◌∷◌, eqb, get_or, set}
 use Rattle.rules.specs.Loops.{first_up_to}
-use Rattle.words.specs.Types.{Edge, Slot}
+use Rattle.words.specs.Types.{Said, Edge, Slot}
 
 -- ---- the words, each as a number: its letters from a = 1 to z = 26, in base 32
 
@@ -91,11 +91,15 @@ abbrev pub value_word : ℕ
 value_word = 23114405
 
 -- ---- words: at place `from` the word leads to place `to`, and puts `value` into byte `field` of the record
--- a field of 16 is none: the word gives nothing
 
 abbrev pub edge : ℕ → ℕ → ℕ → ℕ → ℕ → Edge
 edge from word to field value =
-    record { from = from; word = word; to = to; field = field; value = value }
+    record { from = from; word = word; to = to; says = Some record { field = field; value = value } }
+
+-- a word that says nothing of the record
+abbrev pub passes : ℕ → ℕ → ℕ → Edge
+passes from word to =
+    record { from = from; word = word; to = to; says = None }
 
 abbrev pub edges : List Edge
 edges =
@@ -114,23 +118,23 @@ edges =
     ∷ edge 0 recover_word 2 0 15
     ∷ edge 0 retire_word 4 0 16
     -- any record
-    ∷ edge 0 raw_word 30 16 0
+    ∷ passes 0 raw_word 30
     -- the names of fields
-    ∷ edge 6 by_word 7 16 0
-    ∷ edge 8 home_word 9 16 0
-    ∷ edge 10 slot_word 11 16 0
-    ∷ edge 12 quiesce_word 13 16 0
-    ∷ edge 14 release_word 15 16 0
-    ∷ edge 18 at_word 2 16 0
-    ∷ edge 20 at_word 21 16 0
+    ∷ passes 6 by_word 7
+    ∷ passes 8 home_word 9
+    ∷ passes 10 slot_word 11
+    ∷ passes 12 quiesce_word 13
+    ∷ passes 14 release_word 15
+    ∷ passes 18 at_word 2
+    ∷ passes 20 at_word 21
     -- "b=0 read or 1 write", or any other number
     ∷ edge 22 read_word 23 2 0
     ∷ edge 22 write_word 27 2 1
-    ∷ edge 22 operation_word 26 16 0
-    ∷ edge 23 object_word 24 16 0
-    ∷ edge 25 value_word 7 16 0
-    ∷ edge 27 object_word 28 16 0
-    ∷ edge 29 value_word 7 16 0
+    ∷ passes 22 operation_word 26
+    ∷ passes 23 object_word 24
+    ∷ passes 25 value_word 7
+    ∷ passes 27 object_word 28
+    ∷ passes 29 value_word 7
     ∷ []
 
 abbrev pub edge_count : ℕ
@@ -216,8 +220,9 @@ may_end node = eqb node 0 || eqb node 1 || eqb node 25
 -- ---- into the record
 
 -- a word's own byte
-abbrev pub said : ℕ → ℕ → List ℕ → List ℕ
-said field value bytes = cond (ltb field 16) (set bytes field value) bytes
+abbrev pub said : Option Said → List ℕ → List ℕ
+said None bytes = bytes
+said (Some s) bytes = set bytes s.field s.value
 
 -- a number, lowest byte first; a single byte holds it as it is
 abbrev pub put_one : ℕ → ℕ → List ℕ → List ℕ

@@ -1,10 +1,11 @@
 -- The writer: the words of a step, the line of a record, the text of a list of records. Assumes nothing.
-use Rattle.std.specs.Prelude.{ℕ, ◌+◌, ◌/◌, ◌%◌, ◌≤◌, cond, ◌≡◌, List, [], ◌∷◌, ◌++◌, map, take, ltb, eqb, Some, None}
+use Rattle.std.specs.Prelude.{ℕ, ◌+◌, ◌/◌, ◌%◌, cond, List, [], ◌∷◌, ◌++◌, ltb, eqb, Some, None}
 use Prim.Native.Char.{code}
 use Prim.Native.String.{String, [] as no_more, ◌∷◌ as ◌then◌}
 use Rattle.rules.specs.Listing.{spelt, digits_of}
 use Rattle.rules.specs.Record.{step_of_record}
-use Rattle.words.specs.Types.{Step, Reading, Piece, Tokens}
+pub use Rattle.words.specs.declared.tokens.Token.{Token}
+use Rattle.words.specs.Types.{Step, Reading}
 use Rattle.words.specs.Grammar.{tick_word, begin_word, invoke_word, refresh_word, terminate_word, prepare_word, ask_word, close_word, tell_word, abort_word, deliver_word, drop_word, sweep_word, crash_word, recover_word, retire_word, raw_word, by_word, home_word, slot_word, quiesce_word, release_word, at_word, read_word, write_word, operation_word, object_word, value_word}
 
 -- the bytes of a text in plain letters, one for each
@@ -15,11 +16,6 @@ text_bytes (letter then more) = code letter ∷ text_bytes more
 -- a word's letters, of which there are at most k
 abbrev pub letters_of : ℕ → ℕ → List ℕ
 letters_of k w = spelt 32 96 k w
-
--- what a line is made of
-pub data Token : Type 0 where
-  Word : ℕ → Token
-  Number : ℕ → Token
 
 -- no word of the grammar has more than nine letters, and no field's number more than ten digits
 abbrev pub word_text : ℕ → List ℕ
@@ -109,16 +105,6 @@ more_tokens (Step.Sweep site) = Token.Number site ∷ []
 more_tokens (Step.Crash site) = Token.Number site ∷ []
 more_tokens (Step.Recover site) = Token.Number site ∷ []
 more_tokens (Step.Retire h) = Token.Number h ∷ []
-
--- a word or a number, in code
-abbrev pub piece_token : Piece → Token
-piece_token p = cond p.word (Token.Word p.value) (Token.Number p.value)
-
--- a first word, and the words and numbers after it, in a list of fixed length
-pub record Lists (t : Tokens) (word : ℕ) (tokens : List Token) : Type 0 where
-  pub first : t.first ≡ word
-  pub more : map piece_token (take t.count t.rest) ≡ tokens
-  pub few : t.count ≤ 9
 
 unfoldable pub step_text : Step → List ℕ
 step_text s = word_text (first_word s) ++ rest_text (more_tokens s)

@@ -49,7 +49,7 @@ misplaced s = wrong s (cond (may_end s.node) Fault.UnknownWord Fault.MissingFiel
 
 -- after a word: the row of the word at this place says what follows
 abbrev pub followed : Scan → Edge → Scan
-followed s e = at Mode.Gap 0 e.to s.digits (said e.field e.value s.bytes)
+followed s e = at Mode.Gap 0 e.to s.digits (said e.says s.bytes)
 
 unfoldable pub word_taken : Scan → Scan
 word_taken s =

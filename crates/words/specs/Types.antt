@@ -1,5 +1,6 @@
 -- The types of src/ and of the steps, under short names. Assumes nothing.
 use Rattle.std.specs.Prelude.{Result}
+pub use Rattle.words.specs.declared.rows.Said.{Said}
 pub use Rattle.words.specs.declared.rows.Edge.{Edge}
 pub use Rattle.words.specs.declared.rows.Slot.{Slot}
 pub use Rattle.words.specs.declared.scan.Fault.{Fault}
@@ -9,8 +10,6 @@ pub use Rattle.words.specs.declared.scan.Line.{Line}
 pub use Rattle.words.specs.declared.scan.Reader.{Reader}
 pub use Rattle.rules.specs.declared.steps.Step.{Step}
 pub use Rattle.rules.specs.Types.{Reading}
-pub use Rattle.words.specs.declared.tokens.Piece.{Piece}
-pub use Rattle.words.specs.declared.tokens.Tokens.{Tokens}
 
 -- what a line says, or what is wrong with it
 abbrev pub Verdict : Type 0

@@ -6,17 +6,23 @@ pub const EDGE_COUNT: usize = 31;
 // The place of `raw`.
 pub const RAW_NODE: u8 = 30;
 
-// At place `from` the word leads to place `to`, and puts `value` into byte `field` of the record; a field of 16 is none.
+// What a word says of the record: byte `field` is `value`.
+#[derive(Clone, Copy)]
+pub struct Said {
+    pub field: u8,
+    pub value: u8,
+}
+
+// At place `from` the word leads to place `to`, and may say a byte of the record.
 #[derive(Clone, Copy)]
 pub struct Edge {
     pub from: u8,
     pub word: u64,
     pub to: u8,
-    pub field: u8,
-    pub value: u8,
+    pub says: Option<Said>,
 }
 
-// A number goes into `width` bytes of the record from byte `field` on, and leads to place `to`; a width of 0 is none.
+// A number goes into `width` bytes of the record from byte `field` on, and leads to place `to`.
 #[derive(Clone, Copy)]
 pub struct Slot {
     pub field: u8,

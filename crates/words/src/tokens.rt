@@ -1,16 +1,6 @@
-// What a line is made of.
-
-// A word, by its number, or a number.
+// What a line is made of: words, each by its number, and numbers.
 #[derive(Clone, Copy)]
-pub struct Piece {
-    pub word: bool,
-    pub value: u64,
-}
-
-// The words and numbers of a step: the first word, and then the first `count` of the rest.
-#[derive(Clone, Copy)]
-pub struct Tokens {
-    pub first: u64,
-    pub count: usize,
-    pub rest: [Piece; 9],
+pub enum Token {
+    Word(u64),
+    Number(u64),
 }

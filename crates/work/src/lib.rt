@@ -14,10 +14,10 @@ use decisions::turns::{turn_answer, turn_seen};
 use places::look::{look_of, looks_both, looks_site};
 use rules::looking::{Found, Look, MailAt, Seen, Trip};
 use rules::outcomes::{Answer, Decision, Refusal};
-use rules::steps::{Reading, Step};
+use rules::steps::Step;
 
 // Where the first turn looks. A record that stands for no step looks at site 0, and leaves what it sees.
-pub fn reading_look(reading: Reading) -> Look
+pub fn reading_look(reading: Option<Step>) -> Look
     ensures { result ≡ reading_look reading }
 {
     match reading {
@@ -78,17 +78,14 @@ fn step_scan(step: Step) -> usize
 }
 
 // How many message slots are looked over before a record's work.
-pub fn scan_count(reading: Reading) -> usize
+pub fn scan_count(reading: Option<Step>) -> usize
     ensures { result ≡ scan_count reading }
 {
-    match reading {
-        None => 0,
-        Some(step) => step_scan(step),
-    }
+    reading.map_or(0, step_scan)
 }
 
 // What a record decides in its first turn.
-fn decide_reading(reading: Reading, found: Found, seen: Seen) -> Decision
+fn decide_reading(reading: Option<Step>, found: Found, seen: Seen) -> Decision
     requires { Sane seen }
     ensures { result ≡ reading_done reading found seen }
 {
@@ -114,7 +111,7 @@ fn decide_slot(trip: Trip, slot: usize, before: Answer, seen: Seen) -> Decision
 
 // What a turn decides.
 pub fn decide_turn(
-    reading: Reading,
+    reading: Option<Step>,
     trip: Trip,
     turn: usize,
     found: Found,

@@ -1,17 +1,14 @@
--- Each digit makes the number, and the first byte that is no digit says whether the line matches. Assumes nothing.
-use Rattle.std.proofs.Common.{sym, ◌∙◌, arith}
-use Rattle.names.proofs.Digits.{counted_more, matches_there, matches_nothing}
+-- The digits and what stands behind them say whether the line matches. Assumes nothing.
+use Rattle.std.proofs.Common.{rules, refl, sym, ◌∙◌}
+use Rattle.names.proofs.Lines.{line_matches}
 use Rattle.names.proofs.matches_line.Goals as goal
 
-pub returns-then-not-is_digit : goal.returns-then-not-is_digit
-returns-then-not-is_digit c =
-    let other = sym c.is_digit.ensures ∙ c.if-not-is_digit.true in
-    sym (matches_there c.args.line.now c.loop-i.i c.loop-i.number (omega arith) c.args.object (omega arith) other c.loop-i.invariant.0)
+pub returns-then-eq : goal.returns-then-eq
+returns-then-eq c =
+    let both = line_matches c.args.object c.digit_count.result c.args.line.now c.split_at.result.0.now c.split_at.result.1.now c.number_of.result (search rules) c.digit_count.ensures.0 c.split_at.ensures.front c.split_at.ensures.back c.number_of.ensures in
+    c.starts_with.ensures.value ∙ sym (both ∙ rw (sym c.eq.ensures ∙ c.if-eq.true) refl)
 
-pub loop-i-preserved : goal.loop-i-preserved
-loop-i-preserved c =
-    let digit = sym c.is_digit.ensures ∙ c.if-not-is_digit.false in
-    (rw c.number_more-number.ensures (counted_more c.args.line.now c.loop-i.i c.loop-i.number (omega arith) digit c.loop-i.invariant.0), omega arith)
-
-pub returns : goal.returns
-returns c = sym (matches_nothing c.args.line.now c.loop-i.i c.loop-i.number c.args.object (omega arith) c.loop-i.invariant.0)
+pub returns-else-eq : goal.returns-else-eq
+returns-else-eq c =
+    let both = line_matches c.args.object c.digit_count.result c.args.line.now c.split_at.result.0.now c.split_at.result.1.now c.number_of.result (search rules) c.digit_count.ensures.0 c.split_at.ensures.front c.split_at.ensures.back c.number_of.ensures in
+    c.if-eq.false ∙ sym (both ∙ rw (sym c.eq.ensures ∙ c.if-eq.false) refl)

@@ -1,8 +1,8 @@
 -- What is said, by what was tried: the request, the lists, the sheet, and then the check.
-use Rattle.std.proofs.Common.{◌≡◌, ◌∙◌, sym, arith, rules, ltb-false, length, Ok}
+use Rattle.std.proofs.Common.{◌≡◌, ◌∙◌, sym, arith, rules, ltb-false, length, Ok, Some}
 use Rattle.std.proofs.lemmas.List.{length-take-le}
 use Rattle.rules.specs.Types.{SheetAnswer}
-use Rattle.rules.specs.LoopsLaws.{or_left, or_right, not_true, not_false}
+use Rattle.rules.specs.LoopsLaws.{or_left, or_right}
 use Rattle.rules.specs.Sheet.{sheet_answer}
 use Rattle.rules.specs.Listing.{sheet_line}
 use Rattle.requests.proofs.NineObjects.{few_objects}
@@ -12,55 +12,54 @@ use Rattle.reporting.specs.Lengths.{few_widths}
 use Rattle.reporting.proofs.Said.{said_unread, said_long, said_refused, said_cleared}
 use Rattle.reporting.proofs.report.Goals as goal
 
-pub returns-then-not-request : goal.returns-then-not-request
-returns-then-not-request c =
-    let asked = c.read_request-request in
-    let unread = rw asked.ensures at (not_true asked.result.read c.if-not-request.true) in (
+pub returns-in_default : goal.returns-in_default
+returns-in_default c =
+    let unread = sym c.read_request.ensures ∙ c.in_default.is in (
       rw (said_unread c.args.text.now c.args.station.now c.args.company.now c.args.sheet.now unread) at c.put_text.ensures,
       omega (arith, c.put_text.ensures.ends),
     )
 
 pub returns-then-is_too_long : goal.returns-then-is_too_long
 returns-then-is_too_long c =
-    let asked = c.read_request-request in
-    let read = rw asked.ensures at (not_false asked.result.read c.if-not-request.false) in
+    let asked = c.in-Some.request in
+    let read = sym c.read_request.ensures ∙ c.in-Some.is in
     let long = rw (c.is_too_long.ensures, c.is_too_long-2.ensures) at c.if-is_too_long.true in
     let put = c.put_text-then-is_too_long in (
-      rw (said_long c.args.text.now c.args.station.now c.args.company.now c.args.sheet.now read long) at put.ensures,
+      rw (said_long c.args.text.now c.args.station.now c.args.company.now c.args.sheet.now asked read long) at put.ensures,
       omega (arith, put.ensures.ends),
     )
 
-pub returns-in_default : goal.returns-in_default
-returns-in_default c =
-    let asked = c.read_request-request in
-    let read = rw asked.ensures at (not_false asked.result.read c.if-not-request.false) in
+pub returns-in_default-answer : goal.returns-in_default-answer
+returns-in_default-answer c =
+    let asked = c.in-Some.request in
+    let read = sym c.read_request.ensures ∙ c.in-Some.is in
     let fair = rw (c.is_too_long.ensures, c.is_too_long-2.ensures) at c.if-is_too_long.false in
     let number = c.sheet_number in
     let q : sheet_line number.result ≡ report_of c.args.text.now c.args.station.now c.args.company.now c.args.sheet.now =
     rw number.ensures
-    (said_refused c.args.text.now c.args.station.now c.args.company.now c.args.sheet.now read fair c.sheet_answer-answer.result c.sheet_answer-answer.ensures c.in_default.not-Taken) in
+    (said_refused c.args.text.now c.args.station.now c.args.company.now c.args.sheet.now asked read fair c.sheet_answer-answer.result c.sheet_answer-answer.ensures c.in_default-answer.not-Taken) in
     (rw q at c.put_sheet_line.ensures, omega (arith, sheet_line_length number.result, c.put_sheet_line.ensures.ends))
 
 pub slice_bounds-objects-end : goal.slice_bounds-objects-end
 slice_bounds-objects-end c =
-    let asked = c.read_request-request in
-    let l : length asked.result.objects ≡ 9 = search rules in
-    let few = rw (← asked.ensures) at (few_objects c.args.text.now) in
+    let asked = c.in-Some.request in
+    let l : length asked.objects ≡ 9 = search rules in
+    let few = rw (sym c.read_request.ensures ∙ c.in-Some.is) at (few_objects c.args.text.now) in
     omega arith
 
 pub slice_bounds-list-end : goal.slice_bounds-list-end
 slice_bounds-list-end c =
-    let asked = c.read_request-request in
-    let l : length asked.result.objects ≡ 9 = search rules in
-    let few = rw (← asked.ensures) at (few_objects c.args.text.now) in
-    sym (length-take-le asked.result.count asked.result.objects (omega arith))
+    let asked = c.in-Some.request in
+    let l : length asked.objects ≡ 9 = search rules in
+    let few = rw (sym c.read_request.ensures ∙ c.in-Some.is) at (few_objects c.args.text.now) in
+    sym (length-take-le asked.count asked.objects (omega arith))
 
 pub put_cleared-requires : goal.put_cleared-requires
 put_cleared-requires c =
     let station = is_too_long c.args.station.now in
     let company = is_too_long c.args.company.now in
     let fair = rw (c.is_too_long.ensures, c.is_too_long-2.ensures) at c.if-is_too_long.false in
-    let asked = c.read_request-request.result in
+    let asked = c.in-Some.request in
     let few =
     rw (← c.clear-c.ensures) at
     (few_widths c.tables_after-tables.result asked.beam asked.margin (objects_in asked) asked.home asked.slot asked.quiesce asked.release) in (
@@ -73,13 +72,13 @@ put_cleared-requires c =
 
 pub returns : goal.returns
 returns c =
-    let asked = c.read_request-request in
-    let read = rw asked.ensures at (not_false asked.result.read c.if-not-request.false) in
+    let asked = c.in-Some.request in
+    let read = sym c.read_request.ensures ∙ c.in-Some.is in
     let fair = rw (c.is_too_long.ensures, c.is_too_long-2.ensures) at c.if-is_too_long.false in
     let taken : sheet_answer c.args.sheet.now ≡ Ok tt = sym c.sheet_answer-answer.ensures ∙ c.in-Taken.is in
     let part = c.sheet_records in
     let tables = c.tables_after-tables in
     let cleared = c.clear-c in
     let q =
-    said_cleared c.args.text.now c.args.station.now c.args.company.now c.args.sheet.now read fair asked.result part.result.now tables.result cleared.result taken asked.ensures part.ensures tables.ensures cleared.ensures in
+    said_cleared c.args.text.now c.args.station.now c.args.company.now c.args.sheet.now asked read fair part.result.now tables.result cleared.result taken part.ensures tables.ensures cleared.ensures in
     (rw q at c.put_cleared.ensures.0, omega (arith, c.put_cleared.ensures.1))

@@ -1,6 +1,5 @@
 -- That the part lies within the bytes follows from the sheet being taken. Assumes nothing.
 use Rattle.std.proofs.Common.{◌≡◌, sym, refl, List, ℕ, [], Ok, Err}
-use Rattle.rules.specs.declared.steps.SheetRefusal.{SheetRefusal}
 use Rattle.rules.specs.Types.{SheetAnswer}
 use Rattle.rules.proofs.SheetLaws.{taken_whole, taken_records}
 use Rattle.rules.specs.Sheet.{record_part, sheet_records}

@@ -1,10 +1,7 @@
 -- The bytes that are shown, between quotes. Assumes nothing.
 use Rattle.std.proofs.Common.{arith}
-use Rattle.buffer.specs.Text.{put_both}
+use Rattle.buffer.proofs.Pages.{writes_both}
 use Rattle.faults.proofs.named.put_quoted.Goals as goal
 
 pub returns : goal.returns
-returns c = (
-  put_both (omega arith) (put_both (omega arith) c.put_byte-open.ensures c.put_shown-close.ensures.0) c.put_byte.ensures,
-  omega arith,
-)
+returns c = (writes_both (writes_both c.put_byte.ensures c.put_shown.ensures.0) c.put_byte-2.ensures, omega arith)

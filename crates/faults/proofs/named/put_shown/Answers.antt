@@ -16,4 +16,4 @@ returns c =
     let word : map shown_byte w ≡ shown_up_to 20 (drop from line) =
     rw (c.word_of-b-items.ensures, c.min.ensures, min_comm (length (take (length line - from) (drop from line))) 20, take_min 20 (take (length line - from) (drop from line)), rest) (sym (shown_word 20 (drop from line))) in
     let puts = rw (all, word) at c.loop-b.invariant in
-    (puts, let e = puts.ends in omega (arith, shown_length 20 (drop c.args.from c.args.line.now)))
+    (puts, let e = puts.ends in omega (arith, e, shown_length 20 (drop from line)))

@@ -6,14 +6,13 @@ use Rattle.machine.proofs.whole.turns.Goals as goal
 
 pub loop-slot-init : goal.loop-slot-init
 unfolding turns_up_to
-loop-slot-init c = (refl, omega arith, omega arith)
+loop-slot-init c = (refl, omega arith)
 
 pub loop-slot-preserved : goal.loop-slot-preserved
 unfolding turns_up_to
 loop-slot-preserved c = (
-  rw (add-one, c.turn-next.ensures, ← c.loop-slot.invariant.0),
-  omega arith,
-  rw c.turn-next.ensures (turn_counts c.args.trip c.loop-slot.slot c.loop-slot.done c.loop-slot.invariant.2),
+  rw (add-one, c.turn-done.ensures, ← c.loop-slot.invariant.0),
+  rw c.turn-done.ensures (turn_counts c.args.trip c.loop-slot.slot c.loop-slot.done c.loop-slot.invariant.1),
 )
 
 pub returns : goal.returns

@@ -1,6 +1,0 @@
--- What was read is within the buffer.
-use Rattle.std.proofs.Common.{◌≤◌, length}
-use Rattle.passrun.proofs.fill.Given as goal
-
-abbrev pub invariant-loop : goal.invariant-loop
-invariant-loop g l = l.done ≤ length l.buf
