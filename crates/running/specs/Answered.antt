@@ -77,3 +77,12 @@ module _ (part : List ℕ) where
       record {
         each = λ i h d. rw p (get_or-append (answered_up_to part n) _ d i (rw (answered_length part n) h) ∙ answered_each n i h d);
       }
+
+  -- and so does its part that begins with them and ends there
+  pub taken_held :
+      (n : ℕ) (before after : List Answer) {left : Tables} → n ≤ length before → Ran part n before after left → HoldsAnswers part n (take n after)
+  taken_held n before after room ran =
+      let e = answers_first n before after room ran in
+      record {
+        each = λ i h d. rw e (answered_each n i h d);
+      }
