@@ -4,12 +4,16 @@ use Rattle.std.specs.Borrow.{MutBor}
 use Rattle.buffer.specs.declared.Page.{Page}
 use Rattle.buffer.specs.Text.{written}
 
--- a page with no text yet, in this buffer
-pub record IsEmpty (page : Page) (lent : MutBor (List ℕ)) : Type 0 where
+-- a page that goes on at this place of this buffer, of which nothing has changed
+pub record Begins (page : Page) (at : ℕ) (lent : MutBor (List ℕ)) : Type 0 where
   pub same : page.out.ghost_name ≡ lent.ghost_name
   pub size : length page.out.now ≡ length lent.now
   pub buffer : page.out.now ≡ lent.now
-  pub empty : page.len ≡ 0
+  pub place : page.len ≡ at
+
+-- a page with no text yet
+abbrev pub IsEmpty : Page → MutBor (List ℕ) → Type 0
+IsEmpty page lent = Begins page 0 lent
 
 -- there is room for so many bytes more
 abbrev pub HasRoom : Page → ℕ → Type 0

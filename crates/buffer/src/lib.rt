@@ -15,19 +15,27 @@ pub struct Page<'a> {
 }
 
 impl<'a> Page<'a> {
-    ghost use Rattle.buffer.specs.Page.{HasRoom, IsEmpty, Writes};
+    ghost use Rattle.buffer.specs.Page.{Begins, HasRoom, IsEmpty, Writes};
 
     // With no text yet.
     pub fn new(out: &'a mut [u8]) -> Page<'a>
         ensures { IsEmpty result out.entry }
     {
-        Page { out, len: 0 }
+        Page::behind(out, 0)
+    }
+
+    // With the first `at` bytes of the buffer for its text.
+    pub fn behind(out: &'a mut [u8], at: usize) -> Page<'a>
+        requires { at ≤ length out.old }
+        ensures { Begins result at out.entry }
+    {
+        Page { out, len: at }
     }
 
     pub fn len(&self) -> usize
         ensures { result ≡ self.now.len }
     {
-        self.len
+        self.len // The buffer may be longer.
     }
 
     pub fn put_byte(&mut self, byte: u8)

@@ -12,7 +12,6 @@ use Rattle.rules.specs.declared.tables.Body.{Body}
 use Rattle.rules.specs.declared.tables.Message.{Message}
 use Rattle.rules.specs.declared.tables.Tables.{Tables}
 use Rattle.rules.specs.declared.steps.Step.{Step}
-use Rattle.rules.specs.Types.{Answer}
 use Rattle.rules.specs.Limits.{clock_most, time_most}
 use Rattle.rules.specs.LoopsLaws.{and_right, either, none_some}
 use Rattle.rules.specs.Tables.{site_at, passage_at, message_at, object_site, slot_of}

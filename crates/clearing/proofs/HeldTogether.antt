@@ -8,7 +8,6 @@ use Rattle.rules.specs.declared.tables.Status.{Status}
 use Rattle.rules.specs.declared.tables.Passage.{Passage}
 use Rattle.rules.specs.declared.tables.Tables.{Tables}
 use Rattle.rules.specs.declared.steps.Step.{Step}
-use Rattle.rules.specs.Types.{Answer}
 use Rattle.rules.specs.declared.outcomes.Refusal.{Refusal}
 use Rattle.rules.specs.Limits.{clock_most, time_most}
 use Rattle.rules.specs.LoopsLaws.{either, or_right, below_or_last, every_at}

@@ -1,6 +1,5 @@
 -- The check computed on two widths, one at home and one at a station that is asked, so that each of its words is seen to be said. Assumes nothing.
 use Rattle.std.specs.Prelude.{◌≡◌, refl, Some, None}
-use Rattle.rules.specs.Types.{Holder}
 use Rattle.rules.specs.declared.steps.Step.{Step}
 use Rattle.rules.specs.declared.outcomes.Refusal.{Refusal}
 use Rattle.rules.specs.Answers.{first_refusal}

@@ -4,7 +4,6 @@ use Rattle.std.proofs.Common.{arith, sym, ap, subst}
 use Rattle.std.proofs.lemmas.Bool.{false≢true}
 use Rattle.rules.specs.declared.tables.Tables.{Tables}
 use Rattle.rules.specs.declared.steps.Step.{Step}
-use Rattle.rules.specs.Types.{Answer}
 use Rattle.rules.specs.Limits.{time_most}
 use Rattle.rules.specs.Tables.{site_at, passage_at, slot_of}
 use Rattle.rules.specs.Parts.{next_clock, is_phase_one}

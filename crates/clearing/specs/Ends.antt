@@ -2,7 +2,6 @@
 use Rattle.std.specs.Prelude.{ℕ, ◌≡◌, false, List, length, Some, None, Ok, Err}
 use Rattle.rules.specs.declared.tables.Tables.{Tables}
 use Rattle.rules.specs.declared.steps.Step.{Step}
-use Rattle.rules.specs.Types.{Answer}
 use Rattle.rules.specs.declared.outcomes.Refusal.{Refusal}
 use Rattle.clearing.specs.declared.way.Way.{Way}
 use Rattle.clearing.specs.declared.OwnRefusal.{OwnRefusal}

@@ -54,17 +54,14 @@ impl Way {
     pub(crate) fn is_accepted(self) -> bool
         ensures { result ≡ is_accepted self.answer }
     {
-        matches!(self.answer, Ok(_))
+        self.answer.is_ok()
     }
 
     // What the last step answered; 0 where it was refused.
     fn value(self) -> u64
         ensures { result ≡ answer_value self.answer }
     {
-        match self.answer {
-            Ok(value) => value,
-            Err(_) => 0,
-        }
+        self.answer.unwrap_or(0)
     }
 
     // Its answer as a handle, as a message slot and as a width.

@@ -92,9 +92,6 @@ scan_end line i s h = rw (drop_of_length-le line h)
 
 -- ---- what stood there
 
-pub no_word_past : (line : List ℕ) (from : ℕ) → length line ≤ from → no_word (drop from line) ≡ true
-no_word_past line from h = rw (drop_of_length-le line h)
-
 -- the front of a list ends at the first element that passes, or with the list
 pub front_end : {A : Type 0} (p : A → Bool) (xs : List A) → unwrap_or (position p xs) (length xs) ≡ position_or_len p xs
 front_end p xs =

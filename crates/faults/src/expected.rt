@@ -9,6 +9,7 @@ use grammar::{EDGES, edge_of, may_end, slot_at};
 use words::rows::{EDGE_COUNT, Edge, RAW_NODE};
 
 // How many of these rows lead on from this place.
+// It takes a slice: over the table itself the check gives up at its 31 rows.
 fn leading(rows: &[Edge], node: u8) -> usize
     ensures { (result ≡ count_by (λ (e : Edge). eqb e.from node) rows.now) × (result ≤ length rows.now) }
 {

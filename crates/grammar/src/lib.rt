@@ -124,6 +124,7 @@ pub fn edge_of(k: usize) -> Edge
 }
 
 // The first of these rows by which the word leads from this place.
+// It takes a slice: over the table itself the check gives up at its 31 rows.
 fn row_of(rows: &[Edge], node: u8, word: u64) -> Option<usize>
     ensures { result ≡ position (λ (e : Edge). eqb e.from node && eqb e.word word) rows.now }
 {

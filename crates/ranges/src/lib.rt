@@ -8,8 +8,8 @@ use rules::limits::{
     CLOCK_MOST, COUNT_MOST, HANDLE_MOST, OBJECT_MOST, SITE_MOST, SLOT_MOST, TIME_MOST, WIDTH_MOST,
 };
 use rules::tables::{
-    Asked, Body, Call, Figures, Kind, Message, Object, Passage, Phase, Round, Site, Tables,
-    Told, Visit,
+    Asked, Body, Call, Figures, Kind, Message, Object, Passage, Phase, Round, Site, Tables, Told,
+    Visit,
 };
 
 fn site_in_range(s: Site) -> bool

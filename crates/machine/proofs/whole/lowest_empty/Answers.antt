@@ -11,7 +11,7 @@ pub returns : goal.returns
 unfolding lowest_empty
 returns c =
     let p =
-        position_from_yields_List (λ m. is_empty m.body) _ _ c.position.result c.position.ensures.ran
-        (YieldsList-from_slice c.args.t.now.messages cc)
-        (λ x b q k. search (rules, tests)) in
+    position_from_yields_List (λ m. is_empty m.body) _ _ c.position.result c.position.ensures.ran
+    (YieldsList-from_slice c.args.t.now.messages cc)
+    (λ x b q k. search (rules, tests)) in
     rw (c.unwrap_or.ensures, p) (first_found (λ m. is_empty m.body) c.args.t.now.messages past_message 32 (search rules))

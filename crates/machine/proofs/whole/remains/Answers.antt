@@ -10,13 +10,13 @@ pub returns : goal.returns
 unfolding remains
 returns c =
     let v =
-        any_from_yields_List (λ s. (visit_at c.args.t.now s c.args.slot).there) _ _ c.any-visit.result c.any-visit.ensures.ran
-        (YieldsList-from_range 0 8 8 refl refl)
-        (λ x b q k. search (rules, tests)) in
+    any_from_yields_List (λ s. (visit_at c.args.t.now s c.args.slot).there) _ _ c.any-visit.result c.any-visit.ensures.ran
+    (YieldsList-from_range 0 8 8 refl refl)
+    (λ x b q k. search (rules, tests)) in
     let m =
-        any_from_yields_List (is_message_of c.args.slot) _ _ c.any-message.result c.any-message.ensures.ran
-        (YieldsList-from_slice c.args.t.now.messages cc)
-        (λ x b q k. search (rules, tests)) in
+    any_from_yields_List (is_message_of c.args.slot) _ _ c.any-message.result c.any-message.ensures.ran
+    (YieldsList-from_slice c.args.t.now.messages cc)
+    (λ x b q k. search (rules, tests)) in
     ap₂
     ◌||◌
     (v ∙ some_range (λ s. (visit_at c.args.t.now s c.args.slot).there) 8)
