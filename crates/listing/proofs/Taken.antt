@@ -1,6 +1,5 @@
 -- What the listing of a sheet is, taken or refused. Assumes nothing.
 use Rattle.std.proofs.Common.{◌/◌, ◌≡◌, ◌≢◌, refl, List, ℕ, length, Ok, Err}
-use Rattle.rules.specs.declared.steps.SheetRefusal.{SheetRefusal}
 use Rattle.rules.specs.Types.{SheetAnswer}
 use Rattle.rules.specs.Sheet.{sheet_answer, sheet_number, sheet_records}
 use Rattle.rules.specs.Listing.{printed_up_to, sheet_line, listing_by, listing_of}

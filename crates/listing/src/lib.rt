@@ -4,21 +4,35 @@
 ghost use Rattle.std.specs.Prelude.{◌*◌, ◌≤◌, length};
 ghost use Rattle.buffer.specs.Page.{HasRoom, Writes};
 ghost use Rattle.buffer.specs.Text.{Puts};
-ghost use Rattle.running.specs.Answered.{HoldsAnswers};
-ghost use Rattle.rules.specs.Listing.{printed_up_to, listing_of};
+ghost use Rattle.listing.specs.Lines.{lines_of};
+ghost use Rattle.rules.specs.Listing.{line_of, listing_of};
 
+use answers::answer_number;
 use buffer::Page;
-use rules::steps::SheetAnswer;
+use rules::outcomes::Answer;
 use running::run;
 use sheet::{sheet_answer, sheet_number, sheet_records};
 
-// The lines of the first n records of a part, by their answers.
-fn put_lines(page: &mut Page<'_>, part: &[u8], answers: &[u64], n: usize)
-    requires { (2 * n ≤ length answers.now) × HasRoom page.old (64 * n) × HoldsAnswers part.now n answers.now }
-    ensures { Writes page.old page.new (printed_up_to part.now n).text }
+// The line of a record by its answer: an accepted step has number 0 and its value, a refused one its number and value 0.
+#[tactic(auto, unfolding(rules::specs::Listing::line_of))]
+fn put_answer(page: &mut Page<'_>, place: u64, answer: Answer)
+    requires { HasRoom page.old 64 }
+    ensures { Writes page.old page.new (line_of place answer) }
 {
-    for i in 0..n {
-        page.put_line((i + 1) as u64, answers[2 * i], answers[2 * i + 1]);
+    let Ok(value) = answer else {
+        page.put_line(place, answer_number(answer), 0);
+        return;
+    };
+    page.put_line(place, 0, value);
+}
+
+// The lines of a part's answers.
+fn put_lines(page: &mut Page<'_>, answers: &[Answer])
+    requires { HasRoom page.old (64 * length answers.now) }
+    ensures { Writes page.old page.new (lines_of answers.now (length answers.now)) }
+{
+    for (i, answer) in answers.iter().enumerate() {
+        put_answer(page, (i + 1) as u64, *answer);
     }
 }
 
@@ -35,8 +49,9 @@ pub fn list(sheet: &[u8], out: &mut [u8; 262144]) -> usize
     };
     let part = sheet_records(sheet);
     let n = part.len() / 16;
-    let mut answers = [0u64; 8192];
+    // A sheet has at most 4,095 records.
+    let mut answers = [Ok(0); 4096];
     run(part, n, &mut answers);
-    put_lines(&mut page, part, &answers, n);
+    put_lines(&mut page, &answers[..n]);
     page.len()
 }

@@ -1,23 +1,38 @@
--- The rows of a table of phrases say its phrases. Assumes nothing.
-use Prim.Native.Nat.{ℕ, zero, suc, ◌-◌, ◌≤◌}
-use Prim.Native.String.{String}
-use native.Mathlib.Omega.{arith}
-use mathlib.Core.Path.{◌≡◌, refl}
-use mathlib.Core.List.{List, [], ◌∷◌, ◌++◌, map}
-use lib.ListN.{length, get_or, take, replicate, length-append}
-use lib.Seq.{take_at}
-use Rattle.words.specs.Say.{text_bytes}
-use Rattle.telling.specs.declared.Phrase.{Phrase}
+-- Every refusal has a phrase. Assumes nothing.
+use mathlib.Core.Path.{◌≡◌, refl, subst}
+use mathlib.Core.Bool.{Bool, true, false, not, ◌&&◌, false≢true}
+use mathlib.Core.List.{List, [], ◌∷◌}
+use mathlib.Core.Logic.{inl, inr}
+use lib.Dec.{eqb}
+use lib.ListN.{length}
+use denote.Struct.Field.{Field}
+use denote.Enum.Declared.{Choice}
+use Rattle.rules.specs.declared.outcomes.Refusal.{Refusal}
+use Rattle.rules.specs.contracts.outcomes.Refusal.{the_parts as parts, as_values, the_make as make, the_eta as eta}
+use Rattle.rules.specs.Answers.{refusal_number}
+use Rattle.rules.specs.LoopsLaws.{and_left, and_right}
+use Rattle.words.specs.Tell.{refusal_phrases, refusal_phrase}
 
--- how long a phrase is, and its bytes with spaces behind them
-abbrev pub row : String → Phrase
-row s = (length (text_bytes s), text_bytes s ++ replicate (32 - length (text_bytes s)) 32)
+-- a test of each variant of an enum whose variants hold nothing
+abbrev every : (variants : List (List Field)) → (Choice variants → Bool) → Bool
+every [] test = true
+every ([] ∷ more) test = test (inl tt) && every more (λ c. test (inr c))
+every ((field ∷ fields) ∷ more) test = false
 
--- at each place of the table; past its end there is an empty row
-pub row_says :
-    (phrases : List String) (k : ℕ)
-    → ((get_or (map row phrases) k (0, [])).0 ≤ length (get_or (map row phrases) k (0, [])).1)
-    × (take (get_or (map row phrases) k (0, [])).0 (get_or (map row phrases) k (0, [])).1 ≡ text_bytes (get_or phrases k ""))
-row_says [] k = (omega arith, refl)
-row_says (s ∷ phrases) zero = (rw (length-append (text_bytes s)) (omega arith), take_at (text_bytes s) _ (length (text_bytes s)) refl)
-row_says (s ∷ phrases) (suc k) = row_says phrases k
+-- what each passes, any of its values passes
+every_any : (variants : List (List Field)) (test : Choice variants → Bool) → every variants test ≡ true → (c : Choice variants) → test c ≡ true
+every_any [] test e c = absurd c
+every_any ([] ∷ more) test e (inl held) = and_left (test (inl tt)) (every more (λ c. test (inr c))) e
+every_any ([] ∷ more) test e (inr c) =
+    every_any more (λ c. test (inr c)) (and_right (test (inl tt)) (every more (λ c. test (inr c))) e) c
+every_any ((field ∷ fields) ∷ more) test e c = absurd (false≢true e)
+
+-- one test of all refusals
+every_refusal : (test : Refusal → Bool) → every parts (λ c. test (make c)) ≡ true → (r : Refusal) → test r ≡ true
+every_refusal test e r =
+    subst (λ (x : Refusal). test x ≡ true) (eta r) (every_any parts (λ c. test (make c)) e (as_values r))
+
+-- the places of the list that have no phrase are no refusal's
+pub refusal_has_phrase : (r : Refusal) → not (eqb (length (refusal_phrase (refusal_number r))) 0) ≡ true
+unfolding refusal_phrases
+refusal_has_phrase = every_refusal (λ r. not (eqb (length (refusal_phrase (refusal_number r))) 0)) refl

@@ -1,6 +1,5 @@
 -- What is told of a sheet, taken or refused. Assumes nothing.
 use Rattle.std.proofs.Common.{◌/◌, ◌≡◌, ◌≢◌, refl, List, ℕ, length, Ok, Err}
-use Rattle.rules.specs.declared.steps.SheetRefusal.{SheetRefusal}
 use Rattle.rules.specs.Types.{SheetAnswer}
 use Rattle.rules.specs.Sheet.{sheet_answer, sheet_records}
 use Rattle.words.specs.Tell.{refused_sheet, sheet_by, told_up_to, plain_up_to, sheet_told, plain_of}

@@ -5,7 +5,8 @@ use Rattle.std.proofs.Math.ListN.{get_or-eq_default}
 use Rattle.rules.specs.declared.steps.Step.{Step}
 use Rattle.rules.specs.Types.{Reading}
 use Rattle.rules.specs.declared.steps.SheetRefusal.{SheetRefusal}
-use Rattle.rules.specs.Types.{SheetAnswer}
+use Rattle.rules.specs.Types.{Answer, SheetAnswer}
+use Rattle.rules.specs.Answers.{refusal_number}
 use Rattle.rules.specs.Listing.{spelt, digits_of, decimal_of}
 use Rattle.rules.proofs.ListingLaws.{digits_length}
 use Rattle.rules.specs.LoopsLaws.{either, cond_keeps}
@@ -15,8 +16,7 @@ use Rattle.rules.specs.Sheet.{record_at}
 use Rattle.words.specs.declared.tokens.Token.{Token}
 use Rattle.words.specs.Say.{write_tokens, read_tokens, read_value_tokens, other_tokens, operation_tokens, rest_text, step_text, raw_text, record_by, record_text}
 use Rattle.words.proofs.TextLaws.{cond_length, hex_length}
-use Rattle.words.specs.Tell.{refusal_phrases, sheet_phrase, accepted_told, refused_told}
-use Rattle.telling.specs.Numbers.{numbers_told, numbers_told_line}
+use Rattle.words.specs.Tell.{refusal_phrases, sheet_phrase, accepted_told, refused_told, answer_told, told_line}
 
 -- ---- digits
 
@@ -123,8 +123,9 @@ refused_length n =
     (omega (arith, digits_length 20 n, length-append (digits_of 20 n) (32 ∷ []))))
     (either (ltb n (length refusal_phrases)))
 
-pub told_length : (n v : ℕ) → length (numbers_told n v) ≤ 56
-told_length n v = cond_length (eqb n 0) (accepted_told v) (refused_told n) 56 (omega (arith, accepted_length v)) (refused_length n)
+pub told_length : (answer : Answer) → length (answer_told answer) ≤ 56
+told_length (Ok v) = omega (arith, accepted_length v)
+told_length (Err r) = refused_length (refusal_number r)
 
 -- ---- the line of a refused sheet
 
@@ -138,7 +139,7 @@ sheet_phrase_length (Err SheetRefusal.BadDistance) = omega arith
 -- ---- the line of a record
 
 pub told_line_length :
-    (place : ℕ) (b : List ℕ) (n v : ℕ) → place ≤ 9999 → length (record_text b) ≤ 66 → length (numbers_told_line place b n v) ≤ 128
-unfolding numbers_told_line
-told_line_length place b n v few short =
-    simp (length-append) (omega (arith, place_digits place few, short, told_length n v))
+    (place : ℕ) (b : List ℕ) (answer : Answer) → place ≤ 9999 → length (record_text b) ≤ 66 → length (told_line place b answer) ≤ 128
+unfolding told_line
+told_line_length place b answer few short =
+    simp (length-append) (omega (arith, place_digits place few, short, told_length answer))

@@ -1,3 +1,2 @@
--- The text of an answer by its two numbers, and how long each text is. Assumes nothing.
-pub mod Numbers
+-- How long each text is. Assumes nothing.
 pub mod Lengths

@@ -1,181 +1,137 @@
 // What passread prints, put into the caller's buffer.
-// Each function equals its definition in words' specs/Tell.antt, or in specs/Numbers.antt, where an answer goes by its numbers.
+// Each function equals its definition in words' specs/Tell.antt.
 #![tactic(auto)]
 
-ghost use Rattle.std.specs.Prelude.{◌+◌, ◌*◌, ◌≤◌, ◌≡◌, length, take};
+ghost use Rattle.std.specs.Prelude.{◌+◌, ◌*◌, ◌/◌, ◌≤◌, ◌≡◌, length};
+ghost use Rattle.buffer.specs.Page.{HasRoom, Writes};
 ghost use Rattle.buffer.specs.Text.{Puts};
+ghost use Rattle.rules.specs.Answers.{refusal_number};
 ghost use Rattle.words.specs.Say.{record_text};
-ghost use Rattle.words.specs.Tell.{refusal_phrase, accepted_told, refused_told, sheet_phrase, refused_sheet, told_up_to, plain_up_to, sheet_told, plain_of};
+ghost use Rattle.words.specs.Tell.{refusal_phrase, accepted_told, refused_told, answer_told, told_line, sheet_phrase, refused_sheet, told_up_to, plain_up_to, sheet_told, plain_of};
 ghost use Rattle.running.specs.Answered.{HoldsAnswers};
-ghost use Rattle.telling.specs.Numbers.{numbers_told, numbers_told_line};
 
-use buffer::{put_byte, put_digits, put_text};
-use rules::steps::SheetAnswer;
+use answers::refusal_number;
+use buffer::Page;
+use rules::outcomes::{Answer, Refusal};
+use rules::steps::{SheetAnswer, SheetRefusal};
 use running::run;
 use saying::line::put_record;
 use sheet::{record_at, sheet_answer, sheet_number, sheet_records};
 
-// A phrase: how long it is, and its bytes with spaces behind them.
-#[derive(Clone, Copy)]
-struct Phrase(usize, [u8; 32]);
-
-const NO_PHRASE: Phrase = Phrase(0, [b' '; 32]);
-
-// What each refusal means: the phrase of number n at place n.
-const PHRASES: [Phrase; 21] = [
-    NO_PHRASE,
-    Phrase(12, *b"no such step                    "),
-    Phrase(26, *b"field or times not allowed      "),
-    Phrase(26, *b"no such passage or message      "),
-    Phrase(12, *b"site is down                    "),
-    Phrase(25, *b"does not fit as it stands       "),
-    Phrase(14, *b"no visit there                  "),
-    Phrase(24, *b"clock would pass its end        "),
-    Phrase(16, *b"quiesced or dead                "),
-    Phrase(26, *b"wrong round or done before      "),
-    Phrase(14, *b"object is held                  "),
-    Phrase(25, *b"the message table is full       "),
-    Phrase(19, *b"round is not closed             "),
-    Phrase(31, *b"no call is left to that station "),
-    Phrase(16, *b"no round is left                "),
-    NO_PHRASE,
-    NO_PHRASE,
-    NO_PHRASE,
-    NO_PHRASE,
-    NO_PHRASE,
-    Phrase(19, *b"tables out of range             "),
-];
-
-// The phrase of a refusal number. No other number has one.
-fn phrase_of(number: u64) -> Phrase
-    ensures { (result.0 ≤ length result.1) × (take result.0 result.1 ≡ refusal_phrase number) }
+// What each refusal means.
+fn phrase_of(refusal: Refusal) -> &'static [u8]
+    ensures { result.now ≡ refusal_phrase (refusal_number refusal) }
 {
-    if number < 21 {
-        let k = number as usize;
-        return PHRASES[k];
+    match refusal {
+        Refusal::NoStep => b"no such step",
+        Refusal::BadField => b"field or times not allowed",
+        Refusal::NotThere => b"no such passage or message",
+        Refusal::SiteDown => b"site is down",
+        Refusal::WrongState => b"does not fit as it stands",
+        Refusal::NoVisit => b"no visit there",
+        Refusal::ClockFull => b"clock would pass its end",
+        Refusal::Quiesced => b"quiesced or dead",
+        Refusal::WrongRound => b"wrong round or done before",
+        Refusal::Held => b"object is held",
+        Refusal::Full => b"the message table is full",
+        Refusal::NotClosed => b"round is not closed",
+        Refusal::NoCallLeft => b"no call is left to that station",
+        Refusal::NoRoundLeft => b"no round is left",
+        Refusal::OutOfRange => b"tables out of range",
     }
-    NO_PHRASE
-}
-
-// What the refusal of this number means.
-fn put_phrase(out: &mut [u8], at: usize, number: u64) -> usize
-    requires { at + length (refusal_phrase number) ≤ length out.old }
-    ensures { Puts out.old at (refusal_phrase number) out.new result }
-{
-    let phrase = phrase_of(number);
-    let n = phrase.0;
-    let text = phrase.1;
-    put_text(out, at, &text[..n])
 }
 
 // An equals sign and the value of an accepted record.
-pub fn put_accepted(out: &mut [u8], at: usize, value: u64) -> usize
-    requires { at + 56 ≤ length out.old }
-    ensures { Puts out.old at (accepted_told value) out.new result }
+pub fn put_accepted(page: &mut Page<'_>, value: u64)
+    requires { HasRoom page.old 56 }
+    ensures { Writes page.old page.new (accepted_told value) }
 {
-    let from = put_text(out, at, b" = ");
-    put_digits(out, from, 20, value)
+    page.put_text(b" = ");
+    page.put_digits(20, value);
 }
 
 // The number of a refusal and what it means.
-pub fn put_refused(out: &mut [u8], at: usize, number: u64) -> usize
-    requires { at + 56 ≤ length out.old }
-    ensures { Puts out.old at (refused_told number) out.new result }
+#[tactic(auto, using(rules::proofs::ListingLaws::digits_length))]
+pub fn put_refused(page: &mut Page<'_>, refusal: Refusal)
+    requires { HasRoom page.old 56 }
+    ensures { Writes page.old page.new (refused_told (refusal_number refusal)) }
 {
-    let from = put_text(out, at, b" refused ");
-    let after_number = put_digits(out, from, 20, number);
-    let after_space = put_byte(out, after_number, b' ');
-    put_phrase(out, after_space, number)
+    page.put_text(b" refused ");
+    page.put_digits(20, refusal_number(refusal));
+    page.put_byte(b' ');
+    page.put_text(phrase_of(refusal));
 }
 
-// The answer of a record, by its number and its value.
-fn put_answer(out: &mut [u8], at: usize, number: u64, value: u64) -> usize
-    requires { at + 56 ≤ length out.old }
-    ensures { Puts out.old at (numbers_told number value) out.new result }
+// The answer of a record.
+fn put_answer(page: &mut Page<'_>, answer: Answer)
+    requires { HasRoom page.old 56 }
+    ensures { Writes page.old page.new (answer_told answer) }
 {
-    if number == 0 {
-        return put_accepted(out, at, value);
+    match answer {
+        Ok(value) => put_accepted(page, value),
+        Err(refusal) => put_refused(page, refusal),
     }
-    put_refused(out, at, number)
 }
 
 // What a sheet's answer means.
-fn put_sheet_phrase(out: &mut [u8], at: usize, a: SheetAnswer) -> usize
-    requires { at + 17 ≤ length out.old }
-    ensures { Puts out.old at (sheet_phrase a) out.new result }
+fn sheet_phrase(answer: SheetAnswer) -> &'static [u8]
+    ensures { result.now ≡ sheet_phrase answer }
 {
-    match a {
-        Ok(()) => put_text(out, at, b"taken"),
-        Err(SheetRefusal::TooLong) => put_text(out, at, b"over 65536 bytes"),
-        Err(SheetRefusal::TooShort) => put_text(out, at, b"under 8 bytes"),
-        Err(SheetRefusal::BadMark) => put_text(out, at, b"mark is wrong"),
-        Err(SheetRefusal::BadDistance) => put_text(out, at, b"distance is wrong"),
+    match answer {
+        Ok(()) => b"taken",
+        Err(SheetRefusal::TooLong) => b"over 65536 bytes",
+        Err(SheetRefusal::TooShort) => b"under 8 bytes",
+        Err(SheetRefusal::BadMark) => b"mark is wrong",
+        Err(SheetRefusal::BadDistance) => b"distance is wrong",
     }
 }
 
 // The one line of a refused sheet: its number and what it means.
-fn put_refused_sheet(out: &mut [u8], a: SheetAnswer) -> usize
-    requires { 64 ≤ length out.old }
-    ensures { Puts out.old 0 (refused_sheet a) out.new result × (result ≤ 64) }
+#[tactic(auto, using(rules::proofs::ListingLaws::digits_length, crate::specs::Lengths::sheet_phrase_length))]
+fn put_refused_sheet(page: &mut Page<'_>, answer: SheetAnswer)
+    requires { HasRoom page.old 64 }
+    ensures { Writes page.old page.new (refused_sheet answer) }
 {
-    let number = sheet_number(a);
-    let after_word = put_text(out, 0, b"sheet ");
-    let after_number = put_digits(out, after_word, 20, number);
-    let after_space = put_byte(out, after_number, b' ');
-    let after_phrase = put_sheet_phrase(out, after_space, a);
-    put_byte(out, after_phrase, b'\n')
+    page.put_text(b"sheet ");
+    page.put_digits(20, sheet_number(answer));
+    page.put_byte(b' ');
+    page.put_text(sheet_phrase(answer));
+    page.put_byte(b'\n');
 }
 
-// The line of a record: its place, its words, and its answer by number and value.
-fn put_told_line(
-    out: &mut [u8],
-    at: usize,
-    place: u64,
-    bytes: [u8; 16],
-    number: u64,
-    value: u64,
-) -> usize
-    requires { (at + 128 ≤ length out.old) × (place ≤ 9999) × (length (record_text bytes) ≤ 66) }
-    ensures { Puts out.old at (numbers_told_line place bytes number value) out.new result }
+// The line of a record: its place, its words and its answer.
+#[tactic(auto, using(crate::specs::Lengths::place_digits, crate::specs::Lengths::told_length), unfolding(words::specs::Tell::told_line))]
+fn put_told_line(page: &mut Page<'_>, place: u64, bytes: [u8; 16], answer: Answer)
+    requires { HasRoom page.old 128 × (place ≤ 9999) × (length (record_text bytes) ≤ 66) }
+    ensures { Writes page.old page.new (told_line place bytes answer) }
 {
-    let after_place = put_digits(out, at, 20, place);
-    let after_space = put_byte(out, after_place, b' ');
-    let after_words = put_record(out, after_space, bytes);
-    let after_answer = put_answer(out, after_words, number, value);
-    put_byte(out, after_answer, b'\n')
+    page.put_digits(20, place);
+    page.put_byte(b' ');
+    put_record(page, bytes);
+    put_answer(page, answer);
+    page.put_byte(b'\n');
 }
 
-// The lines of the first n records of a part, whose answers are given by their numbers.
-fn put_told(part: &[u8], answers: &[u64], n: usize, out: &mut [u8]) -> usize
-    requires { (16 * n ≤ length part.now) × (2 * n ≤ length answers.now) × (128 * n ≤ length out.old) × (n ≤ 4095) × HoldsAnswers part.now n answers.now }
-    ensures { Puts out.old 0 (told_up_to part.now n) out.new result × (result ≤ 128 * n) }
+// The lines of a part's first records, whose answers these are.
+fn put_told(page: &mut Page<'_>, part: &[u8], answers: &[Answer])
+    requires { (16 * length answers.now ≤ length part.now) × HasRoom page.old (128 * length answers.now) × (length answers.now ≤ 4095) × HoldsAnswers part.now (length answers.now) answers.now }
+    ensures { Writes page.old page.new (told_up_to part.now (length answers.now)) }
 {
-    let mut at: usize = 0;
-    let mut i: usize = 0;
-    while i < n {
-        let bytes = record_at(part, i);
-        let number = answers[2 * i];
-        let value = answers[2 * i + 1];
-        at = put_told_line(out, at, (i + 1) as u64, bytes, number, value);
-        i += 1;
+    for (i, answer) in answers.iter().enumerate() {
+        put_told_line(page, (i + 1) as u64, record_at(part, i), *answer);
     }
-    at
 }
 
-// The words of the first n records of a part.
-fn put_plain(part: &[u8], n: usize, out: &mut [u8]) -> usize
-    requires { (16 * n ≤ length part.now) × (128 * n ≤ length out.old) }
-    ensures { Puts out.old 0 (plain_up_to part.now n) out.new result × (result ≤ 128 * n) }
+// The words of a part's records.
+fn put_plain(page: &mut Page<'_>, part: &[u8])
+    requires { HasRoom page.old (128 * (length part.now / 16)) }
+    ensures { Writes page.old page.new (plain_up_to part.now (length part.now / 16)) }
 {
-    let mut at: usize = 0;
-    let mut i: usize = 0;
-    while i < n {
-        let bytes = record_at(part, i);
-        let after_words = put_record(out, at, bytes);
-        at = put_byte(out, after_words, b'\n');
-        i += 1;
+    let n = part.len() / 16;
+    for i in 0..n {
+        put_record(page, record_at(part, i));
+        page.put_byte(b'\n');
     }
-    at
 }
 
 // A sheet in words, each record with its place and its answer, at the front of the caller's buffer, which has room for any.
@@ -183,26 +139,31 @@ fn put_plain(part: &[u8], n: usize, out: &mut [u8]) -> usize
 pub fn tell(sheet: &[u8], out: &mut [u8; 524288]) -> usize
     ensures { Puts out.old 0 (sheet_told sheet.now) out.new result × (result ≤ length out.new) }
 {
+    let mut page = Page::new(out);
     let answer = sheet_answer(sheet);
     let Ok(()) = answer else {
-        return put_refused_sheet(out, answer);
+        put_refused_sheet(&mut page, answer);
+        return page.len();
     };
     let part = sheet_records(sheet);
     let n = part.len() / 16;
-    let mut answers = [0u64; 8192];
+    // A sheet has at most 4,095 records.
+    let mut answers = [Ok(0); 4096];
     run(part, n, &mut answers);
-    put_told(part, &answers, n, out)
+    put_told(&mut page, part, &answers[..n]);
+    page.len()
 }
 
 // A sheet in words alone, fit to be read again, likewise.
 pub fn tell_plain(sheet: &[u8], out: &mut [u8; 524288]) -> usize
     ensures { Puts out.old 0 (plain_of sheet.now) out.new result × (result ≤ length out.new) }
 {
+    let mut page = Page::new(out);
     let answer = sheet_answer(sheet);
     let Ok(()) = answer else {
-        return put_refused_sheet(out, answer);
+        put_refused_sheet(&mut page, answer);
+        return page.len();
     };
-    let part = sheet_records(sheet);
-    let n = part.len() / 16;
-    put_plain(part, n, out)
+    put_plain(&mut page, sheet_records(sheet));
+    page.len()
 }

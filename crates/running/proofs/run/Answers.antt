@@ -1,5 +1,5 @@
 -- The tables stand as the definition has them up to the record; the turns of a record are its work, and the last leaves its outcome.
-use Rattle.std.proofs.Common.{◌+◌, ◌≤◌, ◌≡◌, ◌∙◌, refl, arith, add-one, eq-eqb, ne_eqb, length}
+use Rattle.std.proofs.Common.{◌+◌, ◌≤◌, ◌≡◌, ◌∙◌, refl, arith, rules, add-one, eq-eqb, ne_eqb, length}
 use Rattle.rules.specs.Loops.{first_up_to, some_up_to}
 use Rattle.rules.specs.Machine.{lowest_empty, slot_place, remains, stored}
 use Rattle.rules.specs.Tables.{message_at}
@@ -10,22 +10,21 @@ use Rattle.work.specs.WorkLaws.{places_by, scan_most, Turned, working_starts, wo
 use Rattle.running.specs.Answered.{PutsAnswers}
 use Rattle.running.proofs.Printed.{printed_in_range, outcome_next, answered_none, answered_next, answered_full}
 use Rattle.running.proofs.run.Goals as goal
-use Rattle.running.proofs.run.Goals.{then-turn-eq0, else-turn-eq0, then-turn-eq0-2, else-turn-eq0-2, then-i-room, else-i-room}
+use Rattle.running.proofs.run.Goals.{then-turn-eq0, else-turn-eq0, then-turn-eq0-2, else-turn-eq0-2, then-i-out, else-i-out}
 
 pub loop-i-init : goal.loop-i-init
 unfolding printed_up_to
-loop-i-init c = (c.start-t.ensures, answered_none _ _, omega arith, refl)
+loop-i-init c = (c.start-t.ensures, answered_none _ _, refl)
 
 pub loop-k-init : goal.loop-k-init
 unfolding first_up_to some_up_to
-loop-k-init c = (refl, refl, omega arith, rw c.scan_count-scans.ensures (scan_most c.read_record-reading.result))
+loop-k-init c = (refl, refl, rw c.scan_count-k-end.ensures (scan_most c.read_record-reading.result))
 
 pub loop-k-preserved : goal.loop-k-preserved
 unfolding first_up_to some_up_to
 loop-k-preserved c = (
-  rw (add-one, c.first_next-next_empty.ensures, ← c.loop-k.invariant.0),
-  rw (add-one, c.rest_next-next_rest.ensures, ← c.loop-k.invariant.1),
-  omega arith,
+  rw (add-one, c.first_next-empty.ensures, ← c.loop-k.invariant.0),
+  rw (add-one, c.rest_next-remains.ensures, ← c.loop-k.invariant.1),
   omega arith,
 )
 
@@ -67,12 +66,12 @@ loop-turn-preserved c =
     let at =
     places_by c.site_place-s.result c.slot_place-p.result c.bank_place-b.result c.mail_place-m.result in
     let k : scan_count c.read_record-reading.result ≡ 32 → c.loop-k.k ≡ 32 =
-    λ h. omega (arith, c.loop-k-test.false, c.loop-k.invariant.2, c.scan_count-scans.ensures, h) in
+    λ h. omega (arith, c.loop-k-test.false, c.loop-k.auto.k-end, c.scan_count-k-end.ensures, h) in
     let e : scan_count c.read_record-reading.result ≡ 32 → c.loop-k.empty ≡ lowest_empty c.loop-i.t =
     λ h. rw (k h) at c.loop-k.invariant.0 in
     let f :
     scan_count c.read_record-reading.result ≡ 32
-    → c.loop-k.rest
+    → c.loop-k.remains
     ≡ remains c.loop-i.t (slot_place (reading_look c.read_record-reading.result).slot (message_at c.loop-i.t 0)) =
     λ h.
     rw (← c.reading_look-first.ensures, ← c.slot_place-asked.ensures.0)
@@ -84,7 +83,7 @@ loop-turn-preserved c =
           rw (ne_eqb c.loop-turn.turn 0 w.if-turn-eq0.false) (w.message-is ∙ w.no_message-message.ensures)
     ] in
     let u :
-    Turned c.read_record-reading.result c.loop-k.empty c.loop-k.rest c.loop-turn.t c.loop-turn.answer c.loop-turn.turn c.turn_look-look.result
+    Turned c.read_record-reading.result c.loop-k.empty c.loop-k.remains c.loop-turn.t c.loop-turn.answer c.loop-turn.turn c.turn_look-look.result
     c.if-turn-eq0.message
     c.mail_place-m.result
     c.slot_place-p.result
@@ -106,33 +105,33 @@ loop-turn-preserved c =
       | else-turn-eq0-2 w ↦ rw (ne_eqb c.loop-turn.turn 0 w.if-turn-eq0-2.false) w.t-is
     ] in
     rw (z, c.turn_count-last.ensures, c.reading_look-first.ensures)
-    (working_next c.loop-i.t c.read_record-reading.result c.loop-turn.t c.loop-turn.answer c.loop-k.empty c.loop-k.rest c.loop-turn.turn c.loop-turn.last _ _ _ _ _ _ c.decide_turn-d.result c.loop-turn.invariant c.loop-turn-test.true e f u)
+    (working_next c.loop-i.t c.read_record-reading.result c.loop-turn.t c.loop-turn.answer c.loop-k.empty c.loop-k.remains c.loop-turn.turn c.loop-turn.last _ _ _ _ _ _ c.decide_turn-d.result c.loop-turn.invariant c.loop-turn-test.true e f u)
 
 pub loop-i-preserved : goal.loop-i-preserved
 loop-i-preserved c =
     let j =
-    outcome_next c.args.part.now c.loop-i.i c.loop-i.t c.record_at-bytes.result c.read_record-reading.result
+    outcome_next c.args.part.now c.loop-i.i c.loop-i.t c.record_at.result c.read_record-reading.result
     (record { answer = c.loop-turn.answer; tables = c.loop-turn.t })
     c.loop-i.invariant.0
-    c.record_at-bytes.ensures
+    c.record_at.ensures
     c.read_record-reading.ensures.0
     (working_done c.loop-i.t c.read_record-reading.result c.loop-turn.t c.loop-turn.answer c.loop-turn.turn c.loop-turn.last c.loop-turn.invariant (omega arith)) in
     let put :
-    PutsAnswers c.args.part.now (c.loop-i.i + 1) c.args.out.now c.if-i-room.out
-    × (length c.if-i-room.out ≡ length c.args.out.now) =
-    elim c.if-i-room.branch [
-      | then-i-room w ↦
+    PutsAnswers c.args.part.now (c.loop-i.i + 1) c.args.out.now c.if-i-out.out
+    × (length c.if-i-out.out ≡ length c.args.out.now) =
+    elim c.if-i-out.branch [
+      | then-i-out w ↦
           rw w.out-is (
-            answered_next c.args.part.now c.args.out.now c.loop-i.out _ c.loop-i.i c.loop-turn.answer w.if-i-room.true c.loop-i.invariant.1 w.put_answer.ensures j.1,
-            omega arith,
+            answered_next c.args.part.now c.args.out.now c.loop-i.out c.loop-i.i c.loop-turn.answer (omega arith) c.loop-i.invariant.1 j.1,
+            search rules,
           )
-      | else-i-room w ↦
+      | else-i-out w ↦
           rw w.out-is (
-            answered_full c.args.part.now c.args.out.now c.loop-i.out c.loop-i.i w.if-i-room.false c.loop-i.invariant.1,
-            c.loop-i.invariant.3,
+            answered_full c.args.part.now c.args.out.now c.loop-i.out c.loop-i.i (omega arith) c.loop-i.invariant.1,
+            c.loop-i.invariant.2,
           )
     ] in
-    (j.0, put.0, omega arith, put.1)
+    (j.0, put.0, put.1)
 
 pub returns : goal.returns
 returns c =

@@ -12,12 +12,8 @@ use Rattle.running.proofs.run.Given as goal
 abbrev pub invariant-loop-k : goal.invariant-loop-k
 invariant-loop-k l =
     (l.empty ≡ first_up_to (λ m. is_empty (message_at l.t m).body) l.k)
-    × (l.rest ≡ some_up_to (λ j. is_message_of l.asked (message_at l.t j) || (visit_at l.t (j % 8) l.asked).there) l.k)
-    × (l.k ≤ l.scans)
-    × (l.scans ≤ 32)
-
-abbrev pub decreases-loop-k : goal.decreases-loop-k
-decreases-loop-k l = l.scans - l.k
+    × (l.remains ≡ some_up_to (λ j. is_message_of l.asked (message_at l.t j) || (visit_at l.t (j % 8) l.asked).there) l.k)
+    × (l.k-end ≤ 32)
 
 abbrev pub invariant-loop-turn : goal.invariant-loop-turn
 invariant-loop-turn l = Working l.initial.t l.reading l.t l.answer l.turn l.last
@@ -29,8 +25,4 @@ abbrev pub invariant-loop-i : goal.invariant-loop-i
 invariant-loop-i l =
     (l.t ≡ (printed_up_to l.part l.i).tables)
     × PutsAnswers l.part l.i l.initial.out l.out
-    × (l.i ≤ l.n)
     × (length l.out ≡ length l.initial.out)
-
-abbrev pub decreases-loop-i : goal.decreases-loop-i
-decreases-loop-i l = l.n - l.i

@@ -1,15 +1,8 @@
--- The loop carries the lines put so far.
-use Rattle.std.proofs.Common.{◌*◌, ◌-◌, ◌≤◌, ◌≡◌, length}
+-- The words so far are those of the first i records.
+use Rattle.std.proofs.Common.{◌*◌, ◌-◌}
+use Rattle.buffer.specs.Page.{HasRoom, Writes}
 use Rattle.words.specs.Tell.{plain_up_to}
-use Rattle.buffer.specs.Text.{Puts}
 use Rattle.telling.proofs.put_plain.Given as goal
 
 abbrev pub invariant-loop-i : goal.invariant-loop-i
-invariant-loop-i l =
-    Puts l.initial.out 0 (plain_up_to l.part l.i) l.out l.at
-    × (l.at ≤ 128 * l.i)
-    × (l.i ≤ l.n)
-    × (length l.out ≡ length l.initial.out)
-
-abbrev pub decreases-loop-i : goal.decreases-loop-i
-decreases-loop-i l = l.n - l.i
+invariant-loop-i l = Writes l.initial.page l.page (plain_up_to l.part l.i) × HasRoom l.page (128 * (l.n - l.i))

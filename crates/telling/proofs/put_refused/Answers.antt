@@ -1,20 +1,14 @@
--- The texts follow one another, and each has room.
-use Rattle.std.proofs.Common.{arith, ◌≤◌, length, length-append}
-use Rattle.rules.proofs.ListingLaws.{digits_length}
-use Rattle.buffer.specs.Text.{put_both}
+-- The texts follow one another, and the phrase has room.
+use Rattle.std.proofs.Common.{arith, length-append}
+use Rattle.buffer.proofs.Pages.{writes_both}
 use Rattle.telling.specs.Lengths.{refused_length}
 use Rattle.telling.proofs.put_refused.Goals as goal
 
-pub put_byte-after_space-requires : goal.put_byte-after_space-requires
-put_byte-after_space-requires c = omega (arith, digits_length 20 c.args.number)
-
-pub put_phrase-requires : goal.put_phrase-requires
-put_phrase-requires c = omega (arith, simp length-append at (refused_length c.args.number))
+pub put_text-requires-2 : goal.put_text-requires-2
+put_text-requires-2 c =
+    rw (c.phrase_of.ensures, ← c.refusal_number.ensures) (omega (arith, simp length-append at (refused_length c.refusal_number.result)))
 
 pub returns : goal.returns
 returns c =
-    let l : c.args.at ≤ length c.args.out.now = omega arith in
-    let k : c.put_digits-after_number.result ≤ length c.put_digits-after_number.new.out =
-    omega (arith, digits_length 20 c.args.number) in
-    put_both l (put_both l c.put_text-from.ensures c.put_digits-after_number.ensures)
-    (put_both k c.put_byte-after_space.ensures c.put_phrase.ensures)
+    rw (← c.phrase_of.ensures, ← c.refusal_number.ensures)
+    (writes_both (writes_both c.put_text.ensures c.put_digits.ensures) (writes_both c.put_byte.ensures c.put_text-2.ensures))

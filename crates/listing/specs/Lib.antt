@@ -1,0 +1,2 @@
+-- The lines of a list of answers. Assumes nothing.
+pub mod Lines
