@@ -1,2 +1,2 @@
--- What the answers of a run are, as numbers. Assumes nothing.
+-- What the answers of a run are. Assumes nothing.
 pub mod Answered
