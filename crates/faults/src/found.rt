@@ -27,16 +27,17 @@ fn from_by(mode: Mode, from: usize, rest: usize) -> usize
     }
 }
 
-// Where in a line the fault fell: the first byte of the word or number, and the place in the grammar.
-#[derive(Drop)]
-pub(crate) struct Spot {
-    pub from: usize,
+// Where in a line the fault fell: what stands there, from the first byte of the word or number on, and the place in the grammar.
+#[derive(Clone, Copy)]
+pub(crate) struct Spot<'a> {
+    pub rest: &'a [u8],
     pub node: u8,
 }
 
 // The line is scanned again.
-pub(crate) fn spot_in(line: &[u8]) -> Spot
-    ensures { (drop result.from line.now ≡ fault_in line.now) × (result.from ≤ length line.now) × (result.node ≡ place_in line.now) }
+pub(crate) fn spot_in(line: &[u8]) -> Spot<'_>
+    ensures rest { result.rest.now ≡ fault_in line.now }
+    ensures node { result.node ≡ place_in line.now }
 {
     let mut s = blank();
     let mut from = 0;
@@ -45,17 +46,18 @@ pub(crate) fn spot_in(line: &[u8]) -> Spot
         from = from_by(s.mode, from, i + 1);
     }
     let ended = end_of(s);
+    let from = from_by(ended.mode, from, line.len());
     Spot {
-        from: from_by(ended.mode, from, line.len()),
+        rest: &line[from..],
         node: ended.node,
     }
 }
 
 // Whether no word and no number stands there.
-pub(crate) fn no_word(line: &[u8], from: usize) -> bool
-    ensures { result ≡ no_word (drop from line.now) }
+pub(crate) fn no_word(rest: &[u8]) -> bool
+    ensures { result ≡ no_word rest.now }
 {
-    match line.get(from) {
+    match rest.first() {
         Some(b) => is_space(*b) || is_hash(*b),
         None => true,
     }

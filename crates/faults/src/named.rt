@@ -17,33 +17,32 @@ fn shown_byte(b: u8) -> u8
 }
 
 // At most twenty bytes of the word or number that stands there.
-fn put_shown(page: &mut Page<'_>, line: &[u8], from: usize)
-    requires { HasRoom page.old 20 × (from ≤ length line.now) }
-    ensures { Writes page.old page.new (shown_up_to 20 (drop from line.now)) × (page.new.len ≤ page.old.len + 20) }
+fn put_shown(page: &mut Page<'_>, rest: &[u8])
+    requires { HasRoom page.old 20 }
+    ensures { Writes page.old page.new (shown_up_to 20 rest.now) × (page.new.len ≤ page.old.len + 20) }
 {
-    let rest = &line[from..];
     for b in word_of(&rest[..rest.len().min(20)]) {
         page.put_byte(shown_byte(*b));
     }
 }
 
-fn put_quoted(page: &mut Page<'_>, line: &[u8], from: usize)
-    requires { HasRoom page.old 22 × (from ≤ length line.now) }
-    ensures { Writes page.old page.new (quoted (drop from line.now)) × (page.new.len ≤ page.old.len + 22) }
+fn put_quoted(page: &mut Page<'_>, rest: &[u8])
+    requires { HasRoom page.old 22 }
+    ensures { Writes page.old page.new (quoted rest.now) × (page.new.len ≤ page.old.len + 22) }
 {
     page.put_byte(b'\'');
-    put_shown(page, line, from);
+    put_shown(page, rest);
     page.put_byte(b'\'');
 }
 
 // What stood there, if anything did.
-fn put_stood(page: &mut Page<'_>, line: &[u8], from: usize)
-    requires { HasRoom page.old 26 × (from ≤ length line.now) }
-    ensures { Writes page.old page.new (stood_text (drop from line.now)) × (page.new.len ≤ page.old.len + 26) }
+fn put_stood(page: &mut Page<'_>, rest: &[u8])
+    requires { HasRoom page.old 26 }
+    ensures { Writes page.old page.new (stood_text rest.now) × (page.new.len ≤ page.old.len + 26) }
 {
-    if !no_word(line, from) {
+    if !no_word(rest) {
         page.put_text(b" at ");
-        put_quoted(page, line, from);
+        put_quoted(page, rest);
     }
 }
 
@@ -63,7 +62,7 @@ fn put_unknown(page: &mut Page<'_>, line: &[u8])
 {
     let spot = spot_in(line);
     page.put_text(b"unknown word ");
-    put_quoted(page, line, spot.from);
+    put_quoted(page, spot.rest);
     put_expected_text(page, spot.node);
 }
 
@@ -73,7 +72,7 @@ fn put_missing(page: &mut Page<'_>, line: &[u8])
 {
     let spot = spot_in(line);
     page.put_text(b"missing field");
-    put_stood(page, line, spot.from);
+    put_stood(page, spot.rest);
     put_expected_text(page, spot.node);
 }
 

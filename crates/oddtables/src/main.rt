@@ -3,18 +3,17 @@
 
 use answers::{answer_number, answer_value};
 use machine::{step, step_record};
+use parts::message::plain_message;
+use parts::visit::new_visit;
 use rules::outcomes::Outcome;
 use rules::steps::Step;
-use rules::tables::{
-    Body, Call, Holder, Kind, Message, Object, Passage, Phase, Round, Site, Status, Tables, Visit,
-};
+use rules::tables::{Body, Call, Phase, Tables};
 use start::start;
 use std::io;
 
 fn show(rt: &HostRuntime, o: Outcome) -> io::Result<()> {
-    let answer = o.answer;
-    let number = answer_number(answer);
-    let value = answer_value(answer);
+    let number = answer_number(o.answer);
+    let value = answer_value(o.answer);
     let clock = o.tables.sites[0].clock;
     println!(rt; "{number} {value} {clock}")
 }
@@ -22,59 +21,28 @@ fn show(rt: &HostRuntime, o: Outcome) -> io::Result<()> {
 // A clock above its range.
 fn late_clock() -> Tables {
     let mut t = start();
-    t.sites[0] = Site {
-        clock: 2000000001,
-        up: true,
-    };
+    t.sites[0].clock = 2000000001;
     t
 }
 
 // An object held by slot 16.
 fn odd_holder() -> Tables {
     let mut t = start();
-    t.objects[31] = Object {
-        value: 0,
-        holder: Some(16),
-        before: 0,
-    };
+    t.objects[31].holder = Some(16);
     t
 }
 
 // A free slot with kind none in phase 2.
 fn odd_phase() -> Tables {
     let mut t = start();
-    let old = t.passages[15];
-    let round = old.round;
-    let figures = round.figures;
-    let odd = Round {
-        number: 0,
-        kind: Kind::None,
-        phase: Phase::Two,
-        answered: 0,
-        figures: figures,
-    };
-    t.passages[15] = Passage {
-        status: Status::Free,
-        home: 0,
-        round: odd,
-        generation: 0,
-    };
+    t.passages[15].round.phase = Phase::Two;
     t
 }
 
 // A visit of a free slot at site 0, with release time 1.
 fn lone_visit() -> Tables {
     let mut t = start();
-    t.visits[3] = Visit {
-        there: true,
-        quiesce: 1,
-        release: 1,
-        round: 0,
-        prepared: false,
-        dead: false,
-        sent: [0u16; 8],
-        received: 0,
-    };
+    t.visits[3] = new_visit(1, 1, 0);
     t
 }
 
@@ -89,14 +57,7 @@ fn lone_call() -> Tables {
         write: true,
         value: 12500,
     };
-    t.messages[31] = Message {
-        body: Body::Call(call),
-        source: 1,
-        destination: 0,
-        handle: 5,
-        stamp: 6,
-        sent: [0u16; 8],
-    };
+    t.messages[31] = plain_message(Body::Call(call), 1, 0, 5, 6);
     t
 }
 

@@ -1,2 +1,3 @@
--- Laws that the proof of running cites. Assumes nothing.
+-- Laws that the proofs of running cite. Assumes nothing.
 pub mod Printed
+pub mod Turned

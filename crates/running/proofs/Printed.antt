@@ -5,11 +5,11 @@ use Rattle.std.specs.Prelude.{◌≡◌, refl, true, List, [], ◌∷◌, ◌++�
 use Rattle.std.proofs.lemmas.List.{set_split}
 use Rattle.std.proofs.Math.Seq.{take_at, drop_at, drop-drop}
 use Rattle.rules.specs.declared.tables.Tables.{Tables}
-use Rattle.rules.specs.Types.{Answer, Reading}
+use Rattle.rules.specs.Types.{Answer}
 use Rattle.rules.specs.declared.outcomes.Outcome.{Outcome}
 use Rattle.rules.specs.Ranges.{in_range}
 use Rattle.rules.proofs.RangesKept.{start_in_range, in_range_after_record}
-use Rattle.rules.specs.Record.{step_of_record, reading_of, record_in_range_of, step_record_of}
+use Rattle.rules.specs.Record.{record_in_range_of, step_record_of}
 use Rattle.rules.specs.Sheet.{record_at}
 use Rattle.rules.specs.Listing.{printed_up_to}
 use Rattle.running.specs.Answered.{answer_at, answered_up_to, answered_length, room_for, PutsAnswers}
@@ -42,13 +42,11 @@ answer_next part n =
 
 -- a record's outcome, on the tables so far, leaves the next tables, and its answer is the next answer
 pub outcome_next :
-    (part : List ℕ) (n : ℕ) (t : Tables) (b : List ℕ) (r : Reading) (o : Outcome) → t ≡ (printed_up_to part n).tables
+    (part : List ℕ) (n : ℕ) (t : Tables) (b : List ℕ) (o : Outcome) → t ≡ (printed_up_to part n).tables
     → b ≡ record_at part n
-    → r ≡ step_of_record b
-    → o ≡ reading_of t r
+    → o ≡ record_in_range_of t b
     → (o.tables ≡ (printed_up_to part (n + 1)).tables) × (o.answer ≡ answer_at part n)
-unfolding record_in_range_of
-outcome_next part n t b r o e f g h = (rw (h, g, f, e) (tables_next part n), rw (h, g, f, e) (answer_next part n))
+outcome_next part n t b o e f h = (rw (h, f, e) (tables_next part n), rw (h, f, e) (answer_next part n))
 
 -- before the first record no answer is put
 pub answered_none : (part : List ℕ) (buf : List Answer) → PutsAnswers part 0 buf buf

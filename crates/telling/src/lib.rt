@@ -18,26 +18,29 @@ use running::run;
 use saying::line::put_record;
 use sheet::{record_at, sheet_answer, sheet_number, sheet_records};
 
-// What each refusal means.
-fn phrase_of(refusal: Refusal) -> &'static [u8]
-    ensures { result.now ≡ refusal_phrase (refusal_number refusal) }
+// What the refusal of this number means. A number that is no refusal's means nothing.
+// It goes by the number, since `put_refused` promises `refused_told` of any number.
+#[tactic(auto, unfolding(words::specs::Tell::refusal_phrases))]
+fn phrase_of(number: u64) -> &'static [u8]
+    ensures { result.now ≡ refusal_phrase number }
 {
-    match refusal {
-        Refusal::NoStep => b"no such step",
-        Refusal::BadField => b"field or times not allowed",
-        Refusal::NotThere => b"no such passage or message",
-        Refusal::SiteDown => b"site is down",
-        Refusal::WrongState => b"does not fit as it stands",
-        Refusal::NoVisit => b"no visit there",
-        Refusal::ClockFull => b"clock would pass its end",
-        Refusal::Quiesced => b"quiesced or dead",
-        Refusal::WrongRound => b"wrong round or done before",
-        Refusal::Held => b"object is held",
-        Refusal::Full => b"the message table is full",
-        Refusal::NotClosed => b"round is not closed",
-        Refusal::NoCallLeft => b"no call is left to that station",
-        Refusal::NoRoundLeft => b"no round is left",
-        Refusal::OutOfRange => b"tables out of range",
+    match number {
+        1 => b"no such step",
+        2 => b"field or times not allowed",
+        3 => b"no such passage or message",
+        4 => b"site is down",
+        5 => b"does not fit as it stands",
+        6 => b"no visit there",
+        7 => b"clock would pass its end",
+        8 => b"quiesced or dead",
+        9 => b"wrong round or done before",
+        10 => b"object is held",
+        11 => b"the message table is full",
+        12 => b"round is not closed",
+        13 => b"no call is left to that station",
+        14 => b"no round is left",
+        20 => b"tables out of range",
+        _ => b"",
     }
 }
 
@@ -52,14 +55,14 @@ pub fn put_accepted(page: &mut Page<'_>, value: u64)
 
 // The number of a refusal and what it means.
 #[tactic(auto, using(rules::proofs::ListingLaws::digits_length))]
-pub fn put_refused(page: &mut Page<'_>, refusal: Refusal)
+pub fn put_refused(page: &mut Page<'_>, number: u64)
     requires { HasRoom page.old 56 }
-    ensures { Writes page.old page.new (refused_told (refusal_number refusal)) }
+    ensures { Writes page.old page.new (refused_told number) }
 {
     page.put_text(b" refused ");
-    page.put_digits(20, refusal_number(refusal));
+    page.put_digits(20, number);
     page.put_byte(b' ');
-    page.put_text(phrase_of(refusal));
+    page.put_text(phrase_of(number));
 }
 
 // The answer of a record.
@@ -69,7 +72,7 @@ fn put_answer(page: &mut Page<'_>, answer: Answer)
 {
     match answer {
         Ok(value) => put_accepted(page, value),
-        Err(refusal) => put_refused(page, refusal),
+        Err(refusal) => put_refused(page, refusal_number(refusal)),
     }
 }
 

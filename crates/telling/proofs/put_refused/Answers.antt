@@ -6,9 +6,9 @@ use Rattle.telling.proofs.put_refused.Goals as goal
 
 pub put_text-requires-2 : goal.put_text-requires-2
 put_text-requires-2 c =
-    rw (c.phrase_of.ensures, ← c.refusal_number.ensures) (omega (arith, simp length-append at (refused_length c.refusal_number.result)))
+    rw c.phrase_of.ensures (omega (arith, simp length-append at (refused_length c.args.number)))
 
 pub returns : goal.returns
 returns c =
-    rw (← c.phrase_of.ensures, ← c.refusal_number.ensures)
+    rw (← c.phrase_of.ensures)
     (writes_both (writes_both c.put_text.ensures c.put_digits.ensures) (writes_both c.put_byte.ensures c.put_text-2.ensures))

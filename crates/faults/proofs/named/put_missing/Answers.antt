@@ -5,6 +5,6 @@ use Rattle.faults.proofs.named.put_missing.Goals as goal
 
 pub returns : goal.returns
 returns c = (
-  rw (← c.spot_in-spot.ensures.0, ← c.spot_in-spot.ensures.2) (writes_both (writes_both c.put_text.ensures c.put_stood.ensures.0) c.put_expected_text.ensures.0),
+  rw (← c.spot_in-spot.ensures.rest, ← c.spot_in-spot.ensures.node) (writes_both (writes_both c.put_text.ensures c.put_stood.ensures.0) c.put_expected_text.ensures.0),
   omega arith,
 )
