@@ -1,7 +1,6 @@
 -- What is said of a request, by what was tried. Assumes nothing.
 use Rattle.std.proofs.Common.{◌/◌, ◌≡◌, ◌≢◌, ◌||◌, refl, true, false, Some, None, List, ℕ, length, Ok, Err}
 use Rattle.rules.specs.declared.tables.Tables.{Tables}
-use Rattle.rules.specs.declared.steps.SheetRefusal.{SheetRefusal}
 use Rattle.rules.specs.Types.{SheetAnswer}
 use Rattle.rules.specs.Tables.{start}
 use Rattle.rules.specs.Runs.{run_records_of}
@@ -17,10 +16,7 @@ use Rattle.reporting.specs.Report.{cleared_told, objects_in, taken_by, is_too_lo
 -- a sheet that is not taken has one line, with its number
 refused_by_lem : (a : SheetAnswer) (text : List ℕ) → a ≢ Ok tt → sheet_line (sheet_number a) ≡ taken_by a text
 refused_by_lem (Ok u) text h = absurd (h refl)
-refused_by_lem (Err SheetRefusal.TooLong) text h = refl
-refused_by_lem (Err SheetRefusal.TooShort) text h = refl
-refused_by_lem (Err SheetRefusal.BadMark) text h = refl
-refused_by_lem (Err SheetRefusal.BadDistance) text h = refl
+refused_by_lem (Err r) text h = refl
 
 module _ (text station company sheet : List ℕ) where
   pub said_unread : request_of text ≡ None → text_bytes "request not read\n" ≡ report_of text station company sheet

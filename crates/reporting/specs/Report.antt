@@ -1,7 +1,6 @@
 -- What ./clearance prints: one definition over the words of the request, the two lists and the sheet, each any bytes. Assumes nothing.
 use Rattle.std.specs.Prelude.{ℕ, zero, suc, ◌/◌, Bool, cond, ◌&&◌, ◌||◌, List, [], ◌∷◌, ◌++◌, ltb, eqb, length, get_or, take, Option, Some, None, Ok, Err}
 use Rattle.rules.specs.declared.steps.Step.{Step}
-use Rattle.rules.specs.declared.steps.SheetRefusal.{SheetRefusal}
 use Rattle.rules.specs.Types.{SheetAnswer}
 use Rattle.rules.specs.declared.outcomes.Refusal.{Refusal}
 use Rattle.rules.specs.Tables.{start}
@@ -18,7 +17,7 @@ use Rattle.clearing.specs.declared.OwnRefusal.{OwnRefusal}
 use Rattle.clearing.specs.declared.Verdict.{Verdict}
 use Rattle.clearing.specs.declared.Cleared.{Cleared}
 use Rattle.clearing.specs.Question.{listed}
-use Rattle.clearing.specs.Clearing.{own_number, cleared_of}
+use Rattle.clearing.specs.Clearing.{own_number, is_begun, cleared_of}
 
 -- ---- an object, by the line that the lists have for it; "a miss: its number"
 
@@ -51,7 +50,7 @@ module _ (station company objects : List ℕ) where
   -- "for a read " for " and the looked-up line": the refused step was a read's if not every object of the list was read
   unfoldable pub read_told : Cleared → List ℕ
   read_told c =
-      cond (c.begun && ltb c.read (length objects)) (text_bytes " for " ++ name_for station company (listed objects c.read)) []
+      cond (is_begun c && ltb c.read (length objects)) (text_bytes " for " ++ name_for station company (listed objects c.read)) []
 
   -- "the refused step in passread's words, " refused N PHRASE""
   unfoldable pub refused_step_told : Step → Refusal → Cleared → List ℕ
@@ -84,10 +83,7 @@ checked_after part request =
 
 abbrev pub taken_by : SheetAnswer → List ℕ → List ℕ
 taken_by (Ok u) text = text
-taken_by (Err SheetRefusal.TooLong) text = sheet_line (sheet_number (Err SheetRefusal.TooLong))
-taken_by (Err SheetRefusal.TooShort) text = sheet_line (sheet_number (Err SheetRefusal.TooShort))
-taken_by (Err SheetRefusal.BadMark) text = sheet_line (sheet_number (Err SheetRefusal.BadMark))
-taken_by (Err SheetRefusal.BadDistance) text = sheet_line (sheet_number (Err SheetRefusal.BadDistance))
+taken_by (Err r) text = sheet_line (sheet_number (Err r))
 
 -- "over 16,384 bytes"
 abbrev pub is_too_long : List ℕ → Bool

@@ -2,188 +2,147 @@
 // Each function equals its definition in specs/Report.antt.
 #![tactic(auto)]
 
-ghost use Rattle.std.specs.Prelude.{◌+◌, ◌*◌, ◌≤◌, ◌≡◌, length};
+ghost use Rattle.std.specs.Prelude.{◌*◌, ◌≤◌, ◌≡◌, length};
+ghost use Rattle.buffer.specs.Page.{HasRoom, Writes};
 ghost use Rattle.buffer.specs.Text.{Puts};
 ghost use Rattle.clearing.specs.Clearing.{own_number};
 ghost use Rattle.reporting.specs.Report.{name_for, own_name, own_told, width_told, widths_told, read_told, refused_step_told, cleared_told, is_too_long, report_of};
 
-use answers::refusal_number;
-use buffer::{put_byte, put_digits, put_sheet_line, put_text};
+use buffer::Page;
 use clearing::{Cleared, Inquiry, OwnRefusal, Verdict, clear};
 use names::line_for;
 use requests::read_request;
 use rules::outcomes::Refusal;
-use rules::steps::{SheetAnswer, Step};
+use rules::steps::Step;
 use running::tables_after;
 use saying::line::put_step;
 use sheet::{sheet_answer, sheet_number, sheet_records};
 use telling::{put_accepted, put_refused};
 
-// An object, by its line or its number.
-fn put_name<'a>(
-    out: &mut [u8],
-    at: usize,
-    station: &'a [u8],
-    company: &'a [u8],
-    object: u8,
-) -> usize
-    requires { (length station.now ≤ 16384) × (length company.now ≤ 16384) × (at + 16384 ≤ length out.old) }
-    ensures { Puts out.old at (name_for station.now company.now object) out.new result × (result ≤ at + 16384) }
-{
-    let line = line_for(station, company, object);
-    if line.len() == 0 {
-        return put_digits(out, at, 20, object as u64);
-    }
-    put_text(out, at, line)
-}
-
 fn own_number(own: OwnRefusal) -> u64
     ensures { result ≡ own_number own }
 {
-    match own {
-        OwnRefusal::Beam => 1,
-        OwnRefusal::Margin => 2,
-        OwnRefusal::List => 3,
-        OwnRefusal::Object => 4,
-        OwnRefusal::Twice => 5,
-    }
+    own as u64
 }
 
-fn put_own_name(out: &mut [u8], at: usize, own: OwnRefusal) -> usize
-    requires { at + 8 ≤ length out.old }
-    ensures { Puts out.old at (own_name own) out.new result × (result ≤ at + 8) }
+fn own_name(own: OwnRefusal) -> &'static [u8]
+    ensures { result.now ≡ own_name own }
 {
     match own {
-        OwnRefusal::Beam => put_text(out, at, b"beam"),
-        OwnRefusal::Margin => put_text(out, at, b"margin"),
-        OwnRefusal::List => put_text(out, at, b"list"),
-        OwnRefusal::Object => put_text(out, at, b"object"),
-        OwnRefusal::Twice => put_text(out, at, b"twice"),
+        OwnRefusal::Beam => b"beam",
+        OwnRefusal::Margin => b"margin",
+        OwnRefusal::List => b"list",
+        OwnRefusal::Object => b"object",
+        OwnRefusal::Twice => b"twice",
     }
 }
 
 // The one line of a check that was refused by itself.
-fn put_own(out: &mut [u8], own: OwnRefusal) -> usize
-    requires { 64 ≤ length out.old }
-    ensures { Puts out.old 0 (own_told own) out.new result × (result ≤ 64) }
+#[tactic(auto, using(rules::proofs::ListingLaws::digits_length, crate::specs::Lengths::own_name_length))]
+fn put_own(page: &mut Page<'_>, own: OwnRefusal)
+    requires { HasRoom page.old 64 }
+    ensures { Writes page.old page.new (own_told own) }
 {
-    let after_word = put_text(out, 0, b"refused ");
-    let after_number = put_digits(out, after_word, 20, own_number(own));
-    let after_space = put_byte(out, after_number, b' ');
-    let after_name = put_own_name(out, after_space, own);
-    put_byte(out, after_name, b'\n')
+    page.put_text(b"refused ");
+    page.put_digits(20, own_number(own));
+    page.put_byte(b' ');
+    page.put_text(own_name(own));
+    page.put_byte(b'\n');
 }
 
-// The line of a width.
-fn put_width<'a>(
-    out: &mut [u8],
-    at: usize,
+// The station's list and the company's, neither of them too long.
+#[derive(Clone, Copy)]
+struct Lists<'a> {
     station: &'a [u8],
     company: &'a [u8],
-    object: u8,
-    width: u32,
-) -> usize
-    requires { (length station.now ≤ 16384) × (length company.now ≤ 16384) × (at + 16448 ≤ length out.old) }
-    ensures { Puts out.old at (width_told station.now company.now object width) out.new result × (result ≤ at + 16448) }
-{
-    let after_name = put_name(out, at, station, company, object);
-    let after_width = put_accepted(out, after_name, width as u64);
-    put_byte(out, after_width, b'\n')
+    ghost station_short: { length station.now ≤ 16384 },
+    ghost company_short: { length company.now ≤ 16384 },
 }
 
-// The lines of the first n widths.
-fn put_widths<'a>(
-    out: &mut [u8],
-    at: usize,
-    station: &'a [u8],
-    company: &'a [u8],
-    objects: &[u8],
-    widths: [u32; 8],
-    n: usize,
-) -> usize
-    requires { (length station.now ≤ 16384) × (length company.now ≤ 16384) × (n ≤ 8) × (n ≤ length objects.now) × (at + 16448 * n ≤ length out.old) }
-    ensures { Puts out.old at (widths_told station.now company.now objects.now widths n) out.new result × (result ≤ at + 16448 * n) }
-{
-    let mut next = at;
-    let mut i: usize = 0;
-    while i < n {
-        next = put_width(out, next, station, company, objects[i], widths[i]);
-        i += 1;
-    }
-    next
-}
-
-// Which object a refused read was for.
-fn put_read<'a>(
-    out: &mut [u8],
-    at: usize,
-    station: &'a [u8],
-    company: &'a [u8],
-    objects: &[u8],
-    c: Cleared,
-) -> usize
-    requires { (length station.now ≤ 16384) × (length company.now ≤ 16384) × (at + 16390 ≤ length out.old) }
-    ensures { Puts out.old at (read_told station.now company.now objects.now c) out.new result × (result ≤ at + 16390) }
-{
-    let begun = c.passage.is_some();
-    let read = c.read;
-    if !begun {
-        return at;
-    }
-    if objects.len() <= read {
-        return at;
-    }
-    let after_word = put_text(out, at, b" for ");
-    put_name(out, after_word, station, company, objects[read])
-}
-
-// The line of the step that was refused.
-fn put_refused_step<'a>(
-    out: &mut [u8],
-    at: usize,
-    station: &'a [u8],
-    company: &'a [u8],
-    objects: &[u8],
-    step: Step,
-    refusal: Refusal,
-    c: Cleared,
-) -> usize
-    requires { (length station.now ≤ 16384) × (length company.now ≤ 16384) × (at + 16600 ≤ length out.old) }
-    ensures { Puts out.old at (refused_step_told station.now company.now objects.now step refusal c) out.new result × (result ≤ at + 16600) }
-{
-    let after_step = put_step(out, at, step);
-    let after_refusal = put_refused(out, after_step, refusal_number(refusal));
-    let after_read = put_read(out, after_refusal, station, company, objects, c);
-    put_byte(out, after_read, b'\n')
-}
-
-// The verdict, and what belongs to it.
-fn put_cleared<'a>(
-    out: &mut [u8],
-    station: &'a [u8],
-    company: &'a [u8],
-    objects: &[u8],
-    c: Cleared,
-) -> usize
-    requires { (length station.now ≤ 16384) × (length company.now ≤ 16384) × (c.count ≤ 8) × (c.count ≤ length objects.now) × (262144 ≤ length out.old) }
-    ensures { Puts out.old 0 (cleared_told station.now company.now objects.now c) out.new result × (result ≤ 262144) }
-{
-    let verdict = c.verdict;
-    let widths = c.widths;
-    let count = c.count;
-    match verdict {
-        Verdict::Refused(own) => put_own(out, own),
-        Verdict::NoReading(step, refusal) => {
-            let next = put_text(out, 0, b"no reading\n");
-            put_refused_step(out, next, station, company, objects, step, refusal, c)
+impl Lists<'_> {
+    // An object, by its line or its number.
+    fn put_name(&self, page: &mut Page<'_>, object: u8)
+        requires { HasRoom page.old 16384 }
+        ensures { Writes page.old page.new (name_for self.now.station.now self.now.company.now object) }
+    {
+        let line = line_for(self.station, self.company, object);
+        if line.is_empty() {
+            page.put_digits(20, u64::from(object));
+        } else {
+            page.put_text(line);
         }
-        Verdict::Narrow => {
-            let next = put_text(out, 0, b"narrow\n");
-            put_widths(out, next, station, company, objects, widths, count)
+    }
+
+    // The line of a width.
+    fn put_width(&self, page: &mut Page<'_>, object: u8, width: u32)
+        requires { HasRoom page.old 16448 }
+        ensures { Writes page.old page.new (width_told self.now.station.now self.now.company.now object width) }
+    {
+        self.put_name(page, object);
+        put_accepted(page, u64::from(width));
+        page.put_byte(b'\n');
+    }
+
+    // The lines of the widths that a check shows.
+    fn put_widths(&self, page: &mut Page<'_>, objects: &[u8], c: &Cleared)
+        requires { (c.now.count ≤ 8) × (c.now.count ≤ length objects.now) × HasRoom page.old (16448 * c.now.count) }
+        ensures { Writes page.old page.new (widths_told self.now.station.now self.now.company.now objects.now c.now.widths c.now.count) }
+    {
+        for i in 0..c.count {
+            self.put_width(page, objects[i], c.widths[i]);
         }
-        Verdict::Fits => {
-            let next = put_text(out, 0, b"fits\n");
-            put_widths(out, next, station, company, objects, widths, count)
+    }
+
+    // Which object a refused read was for.
+    fn put_read(&self, page: &mut Page<'_>, objects: &[u8], c: &Cleared)
+        requires { HasRoom page.old 16390 }
+        ensures { Writes page.old page.new (read_told self.now.station.now self.now.company.now objects.now c.now) }
+    {
+        let begun = c.passage.is_some();
+        if begun && c.read < objects.len() {
+            page.put_text(b" for ");
+            self.put_name(page, objects[c.read]);
+        }
+    }
+
+    // The line of the step that was refused.
+    fn put_refused_step(
+        &self,
+        page: &mut Page<'_>,
+        objects: &[u8],
+        step: Step,
+        refusal: Refusal,
+        c: &Cleared,
+    )
+        requires { HasRoom page.old 16600 }
+        ensures { Writes page.old page.new (refused_step_told self.now.station.now self.now.company.now objects.now step refusal c.now) }
+    {
+        put_step(page, step);
+        put_refused(page, refusal);
+        self.put_read(page, objects, c);
+        page.put_byte(b'\n');
+    }
+
+    // The verdict, and what belongs to it.
+    #[tactic(auto, unfolding(crate::specs::Report::cleared_told))]
+    fn put_cleared(&self, page: &mut Page<'_>, objects: &[u8], c: &Cleared)
+        requires { (c.now.count ≤ 8) × (c.now.count ≤ length objects.now) × HasRoom page.old 262144 }
+        ensures { Writes page.old page.new (cleared_told self.now.station.now self.now.company.now objects.now c.now) }
+    {
+        match c.verdict {
+            Verdict::Refused(own) => put_own(page, own),
+            Verdict::NoReading(step, refusal) => {
+                page.put_text(b"no reading\n");
+                self.put_refused_step(page, objects, step, refusal, c);
+            }
+            Verdict::Narrow => {
+                page.put_text(b"narrow\n");
+                self.put_widths(page, objects, c);
+            }
+            Verdict::Fits => {
+                page.put_text(b"fits\n");
+                self.put_widths(page, objects, c);
+            }
         }
     }
 }
@@ -194,8 +153,42 @@ fn is_too_long(list: &[u8]) -> bool
     16384 < list.len()
 }
 
+// The whole text.
+fn put_report(page: &mut Page<'_>, text: &[u8], station: &[u8], company: &[u8], sheet: &[u8])
+    requires { HasRoom page.old 262144 }
+    ensures { Writes page.old page.new (report_of text.now station.now company.now sheet.now) }
+{
+    let Some(request) = read_request(text) else {
+        page.put_text(b"request not read\n");
+        return;
+    };
+    if is_too_long(station) | is_too_long(company) {
+        page.put_text(b"list too long\n");
+        return;
+    }
+    let lists = Lists { station, company };
+    let answer = sheet_answer(sheet);
+    let Ok(()) = answer else {
+        page.put_sheet_line(sheet_number(answer));
+        return;
+    };
+    let tables = tables_after(sheet_records(sheet));
+    let objects = &request.objects[..request.count];
+    let inquiry = Inquiry {
+        beam: request.beam,
+        margin: request.margin,
+        objects,
+        home: request.home,
+        slot: request.slot,
+        quiesce: request.quiesce,
+        release: request.release,
+    };
+    lists.put_cleared(page, objects, &clear(tables, &inquiry));
+}
+
 // The whole text at the front of the caller's buffer, which has room for any; the answer is its length.
 // The bytes behind the text stay as they were.
+#[tactic(auto, using(buffer::proofs::Pages::puts_from_front))]
 pub fn report<'a>(
     text: &[u8],
     station: &'a [u8],
@@ -205,29 +198,7 @@ pub fn report<'a>(
 ) -> usize
     ensures { Puts out.old 0 (report_of text.now station.now company.now sheet.now) out.new result × (result ≤ length out.new) }
 {
-    let Some(request) = read_request(text) else {
-        return put_text(out, 0, b"request not read\n");
-    };
-    if is_too_long(station) | is_too_long(company) {
-        return put_text(out, 0, b"list too long\n");
-    }
-    let answer = sheet_answer(sheet);
-    let Ok(()) = answer else {
-        return put_sheet_line(out, 0, sheet_number(answer));
-    };
-    let tables = tables_after(sheet_records(sheet));
-    let objects = request.objects;
-    let count = request.count;
-    let list = &objects[..count];
-    let inquiry = Inquiry {
-        beam: request.beam,
-        margin: request.margin,
-        objects: list,
-        home: request.home,
-        slot: request.slot,
-        quiesce: request.quiesce,
-        release: request.release,
-    };
-    let c = clear(tables, &inquiry);
-    put_cleared(out, station, company, list, c)
+    let mut page = Page::new(out);
+    put_report(&mut page, text, station, company, sheet);
+    page.len()
 }
