@@ -8,6 +8,7 @@ ghost use Rattle.buffer.specs.Text.{Puts};
 ghost use Rattle.clearing.specs.Clearing.{own_number};
 ghost use Rattle.reporting.specs.Report.{name_for, own_name, own_told, width_told, widths_told, read_told, refused_step_told, cleared_told, is_too_long, report_of};
 
+use answers::refusal_number;
 use buffer::Page;
 use clearing::{Cleared, Inquiry, OwnRefusal, Verdict, clear};
 use names::line_for;
@@ -118,7 +119,7 @@ impl Lists<'_> {
         ensures { Writes page.old page.new (refused_step_told self.now.station.now self.now.company.now objects.now step refusal c.now) }
     {
         put_step(page, step);
-        put_refused(page, refusal);
+        put_refused(page, refusal_number(refusal));
         self.put_read(page, objects, c);
         page.put_byte(b'\n');
     }
