@@ -1,4 +1,4 @@
-// How a step is refused: its checks as data, in the order of the refusal table; the first that holds refuses.
+// How a step is refused: the lines of the refusal table, each of which gives its refusal where it holds, and what settles a step by the first that does.
 #![tactic(auto)]
 
 ghost use Rattle.std.specs.Prelude.{◌≡◌};

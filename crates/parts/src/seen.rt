@@ -1,4 +1,4 @@
-// What was seen, as a whole: with another site in it, and what its message says of clock, slot and home.
+// What was seen, as a whole: with its clock moved or another site in it, and what its message says of clock, slot and home.
 // Each function equals the definition of the same name in rules' specs/Seen.antt or specs/Calls.antt.
 ghost use Rattle.std.specs.Prelude.{◌≡◌};
 ghost use Rattle.rules.specs.Sane.{Sane};

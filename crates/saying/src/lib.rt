@@ -1,5 +1,4 @@
-// The line of a record, put into the caller's buffer: words where it stands for a step, else `raw` and its bytes in hex.
-// Each function leaves the buffer with its text at `at`, and hands back the place after the text.
+// The line of a record, put on a page: words where it stands for a step, else `raw` and its bytes in hex.
 #![tactic(auto)]
 
 pub mod line;
