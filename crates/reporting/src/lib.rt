@@ -163,7 +163,7 @@ fn put_report(page: &mut Page<'_>, text: &[u8], station: &[u8], company: &[u8], 
         page.put_text(b"request not read\n");
         return;
     };
-    if is_too_long(station) | is_too_long(company) {
+    if is_too_long(station) || is_too_long(company) {
         page.put_text(b"list too long\n");
         return;
     }
