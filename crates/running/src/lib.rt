@@ -37,7 +37,8 @@ struct Pass {
 }
 
 // One pass over the first n messages, with the visits of a slot beside them.
-// It goes over all for the steps that ask: a new message for the lowest empty slot, a retire for what remains.
+// For the steps that ask it goes over all: a new message for the lowest empty slot, a retire for what remains.
+// For the others it goes over none, and what it finds does not matter.
 fn look_over(t: &Tables, slot: usize, n: usize) -> Pass
     requires { (slot < 16) × (n ≤ 32) }
     ensures { (n ≡ 32 → result.empty ≡ lowest_empty t.now) × (n ≡ 32 → result.remains ≡ remains t.now slot) }
@@ -118,7 +119,7 @@ fn store(t: &mut Tables, at: Places, turn: usize, left: Seen)
     }
 }
 
-// One turn of a record's work, after this answer: look, decide, store.
+// One turn of a record's work, after this answer: look, decide, store in place.
 // One body serves the step's own turn, which is the first, and the slots of a sweep or a crash.
 fn take_turn(
     t: &mut Tables,
@@ -154,23 +155,19 @@ fn take_turn(
     d.answer
 }
 
-// A record's work, turn by turn, on tables that are in range.
+// A record's work on tables that are in range: the first turn's answer says how many slots follow.
 fn work(t: &mut Tables, bytes: [u8; 16]) -> Answer
     requires { in_range t.old ≡ true }
     ensures { left_with result t.new ≡ record_in_range_of t.old bytes }
 {
     let reading = read_record(bytes);
     let first = reading_look(reading);
-    let slot = slot_place(first.slot, t.messages[0]);
-    let pass = look_over(t, slot, scan_count(reading));
-    let mut answer = Err(Refusal::NoStep);
-    let mut turn = 0;
-    let mut last = 1;
-    // A `while`, since the end moves: the first turn's answer says how many turns follow.
-    while turn < last {
-        answer = take_turn(t, reading, first, pass, turn, answer);
-        last = 1 + turn_count(first.trip, answer);
-        turn += 1;
+    let asked = slot_place(first.slot, t.messages[0]);
+    let pass = look_over(t, asked, scan_count(reading));
+    // Before the first turn there is no answer, and what stands in its place does not matter.
+    let mut answer = take_turn(t, reading, first, pass, 0, Err(Refusal::NoStep));
+    for slot in 0..turn_count(first.trip, answer) {
+        answer = take_turn(t, reading, first, pass, slot + 1, answer);
     }
     answer
 }
