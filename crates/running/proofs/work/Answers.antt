@@ -26,7 +26,7 @@ loop-slot-init c =
     (omega arith)
     c.scan_count.ensures
     (rw c.reading_look-first.ensures at c.slot_place-asked.ensures.0)
-    c.look_over-pass.ensures
+    c.look_over.ensures
     c.take_turn-answer.ensures)
 
 pub take_turn-answer-requires-in-loop-slot : goal.take_turn-answer-requires-in-loop-slot
@@ -53,7 +53,7 @@ loop-slot-preserved c =
     (omega arith)
     c.scan_count.ensures
     (rw c.reading_look-first.ensures at c.slot_place-asked.ensures.0)
-    c.look_over-pass.ensures
+    c.look_over.ensures
     q)
 
 pub returns : goal.returns

@@ -4,4 +4,4 @@ use Rattle.work.specs.WorkLaws.{Working}
 use Rattle.running.proofs.work.Given as goal
 
 abbrev pub invariant-loop-slot : goal.invariant-loop-slot
-invariant-loop-slot l = Working l.fn.t l.reading l.t l.answer (suc l.slot) (1 + l.slot-end)
+invariant-loop-slot l = Working l.fn.t l.task.reading l.t l.answer (suc l.slot) (1 + l.slot-end)
