@@ -36,8 +36,17 @@ struct Pass {
     remains: bool,
 }
 
+// What is known of a record before its first turn: the step that it stands for, where that looks, and what the pass found.
+#[derive(Clone, Copy)]
+struct Task {
+    reading: Option<Step>,
+    first: Look,
+    pass: Pass,
+}
+
 // One pass over the first n messages, with the visits of a slot beside them.
-// It goes over all for the steps that ask: a new message for the lowest empty slot, a retire for what remains.
+// For the steps that ask it goes over all: a new message for the lowest empty slot, a retire for what remains.
+// For the others it goes over none, and what it finds does not matter.
 fn look_over(t: &Tables, slot: usize, n: usize) -> Pass
     requires { (slot < 16) × (n ≤ 32) }
     ensures { (n ≡ 32 → result.empty ≡ lowest_empty t.now) × (n ≡ 32 → result.remains ≡ remains t.now slot) }
@@ -118,33 +127,26 @@ fn store(t: &mut Tables, at: Places, turn: usize, left: Seen)
     }
 }
 
-// One turn of a record's work, after this answer: look, decide, store.
+// One turn of a record's work, after this answer: look, decide, store in place.
 // One body serves the step's own turn, which is the first, and the slots of a sweep or a crash.
-fn take_turn(
-    t: &mut Tables,
-    reading: Option<Step>,
-    first: Look,
-    pass: Pass,
-    turn: usize,
-    before: Answer,
-) -> Answer
-    requires { (first ≡ reading_look reading)
+fn take_turn(t: &mut Tables, task: &Task, turn: usize, before: Answer) -> Answer
+    requires { (task.now.first ≡ reading_look task.now.reading)
         × (turn ≤ 16)
-        × (trip_value first.trip before ≤ turn)
+        × (trip_value task.now.first.trip before ≤ turn)
         × (turn ≡ 0 → in_range t.old ≡ true) }
-    ensures { left_with result t.new ≡ turn_made reading pass.empty pass.remains turn (left_with before t.old) }
+    ensures { left_with result t.new ≡ turn_made task.now.reading task.now.pass.empty task.now.pass.remains turn (left_with before t.old) }
 {
-    let look = turn_look(first, turn);
-    let place = mail_place(look.mail, pass.empty);
+    let look = turn_look(task.first, turn);
+    let place = mail_place(look.mail, task.pass.empty);
     let message = message_for(t, turn, place);
     let at = places_for(t, look, place, message);
     let found = Found {
         place,
-        remains: pass.remains,
+        remains: task.pass.remains,
     };
     let d = decide_turn(
-        reading,
-        first.trip,
+        task.reading,
+        task.first.trip,
         turn,
         found,
         before,
@@ -154,23 +156,23 @@ fn take_turn(
     d.answer
 }
 
-// A record's work, turn by turn, on tables that are in range.
+// A record's work on tables that are in range: the first turn's answer says how many slots follow.
 fn work(t: &mut Tables, bytes: [u8; 16]) -> Answer
     requires { in_range t.old ≡ true }
     ensures { left_with result t.new ≡ record_in_range_of t.old bytes }
 {
     let reading = read_record(bytes);
     let first = reading_look(reading);
-    let slot = slot_place(first.slot, t.messages[0]);
-    let pass = look_over(t, slot, scan_count(reading));
-    let mut answer = Err(Refusal::NoStep);
-    let mut turn = 0;
-    let mut last = 1;
-    // A `while`, since the end moves: the first turn's answer says how many turns follow.
-    while turn < last {
-        answer = take_turn(t, reading, first, pass, turn, answer);
-        last = 1 + turn_count(first.trip, answer);
-        turn += 1;
+    let asked = slot_place(first.slot, t.messages[0]);
+    let task = Task {
+        reading,
+        first,
+        pass: look_over(t, asked, scan_count(reading)),
+    };
+    // Before the first turn there is no answer, and what stands in its place does not matter.
+    let mut answer = take_turn(t, &task, 0, Err(Refusal::NoStep));
+    for slot in 0..turn_count(first.trip, answer) {
+        answer = take_turn(t, &task, slot + 1, answer);
     }
     answer
 }
