@@ -60,7 +60,7 @@ fn split_line(list: &[u8]) -> Option<(&[u8], &[u8])>
 }
 
 // The first line of a list that matches, without its newline.
-// The library's `split` promises how many parts there are and that none holds a newline, and not where each stands, so lines are cut off one by one.
+// Lines are cut off one by one, since what is left is a list again, and its lines are the rest of them.
 #[tactic(auto, using(crate::proofs::Lines::match_later, crate::proofs::Lines::match_none))]
 fn first_match(list: &[u8], object: u8) -> Option<&[u8]>
     ensures { MatchOption result (first_match object (lines_of list.now) ≡ []) (λ line. (first_match object (lines_of list.now) ≡ line.now) × (0 < length line.now)) }

@@ -17,6 +17,7 @@ use Rattle.words.specs.declared.tokens.Token.{Token}
 use Rattle.words.specs.Say.{write_tokens, read_tokens, read_value_tokens, other_tokens, operation_tokens, rest_text, step_text, raw_text, record_by, record_text}
 use Rattle.words.proofs.TextLaws.{cond_length, hex_length}
 use Rattle.words.specs.Tell.{refusal_phrases, sheet_phrase, accepted_told, refused_told, answer_told, told_line}
+use Rattle.telling.specs.Numbers.{numbers_told, numbers_told_line}
 
 -- ---- digits
 
@@ -123,9 +124,13 @@ refused_length n =
     (omega (arith, digits_length 20 n, length-append (digits_of 20 n) (32 ∷ []))))
     (either (ltb n (length refusal_phrases)))
 
-pub told_length : (answer : Answer) → length (answer_told answer) ≤ 56
-told_length (Ok v) = omega (arith, accepted_length v)
-told_length (Err r) = refused_length (refusal_number r)
+pub answer_length : (answer : Answer) → length (answer_told answer) ≤ 56
+answer_length (Ok v) = omega (arith, accepted_length v)
+answer_length (Err r) = refused_length (refusal_number r)
+
+-- the same of any number and value
+pub told_length : (n v : ℕ) → length (numbers_told n v) ≤ 56
+told_length n v = cond_length (eqb n 0) (accepted_told v) (refused_told n) 56 (omega (arith, accepted_length v)) (refused_length n)
 
 -- ---- the line of a refused sheet
 
@@ -138,8 +143,15 @@ sheet_phrase_length (Err SheetRefusal.BadDistance) = omega arith
 
 -- ---- the line of a record
 
-pub told_line_length :
+pub answer_line_length :
     (place : ℕ) (b : List ℕ) (answer : Answer) → place ≤ 9999 → length (record_text b) ≤ 66 → length (told_line place b answer) ≤ 128
 unfolding told_line
-told_line_length place b answer few short =
-    simp (length-append) (omega (arith, place_digits place few, short, told_length answer))
+answer_line_length place b answer few short =
+    simp (length-append) (omega (arith, place_digits place few, short, answer_length answer))
+
+-- the same of any number and value
+pub told_line_length :
+    (place : ℕ) (b : List ℕ) (n v : ℕ) → place ≤ 9999 → length (record_text b) ≤ 66 → length (numbers_told_line place b n v) ≤ 128
+unfolding numbers_told_line
+told_line_length place b n v few short =
+    simp (length-append) (omega (arith, place_digits place few, short, told_length n v))

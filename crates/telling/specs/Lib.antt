@@ -1,2 +1,3 @@
--- How long each text is. Assumes nothing.
+-- The text of an answer by its two numbers, and how long each text is. Assumes nothing.
+pub mod Numbers
 pub mod Lengths

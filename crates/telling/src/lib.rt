@@ -103,7 +103,7 @@ fn put_refused_sheet(page: &mut Page<'_>, answer: SheetAnswer)
 }
 
 // The line of a record: its place, its words and its answer.
-#[tactic(auto, using(crate::specs::Lengths::place_digits, crate::specs::Lengths::told_length))]
+#[tactic(auto, using(crate::specs::Lengths::place_digits, crate::specs::Lengths::answer_length))]
 fn put_told_line(page: &mut Page<'_>, place: u64, bytes: [u8; 16], answer: Answer)
     requires { HasRoom page.old 128 × (place ≤ 9999) × (length (record_text bytes) ≤ 66) }
     ensures { Writes page.old page.new (told_line place bytes answer) }
