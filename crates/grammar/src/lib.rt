@@ -37,7 +37,8 @@ macro_rules! slot {
 }
 
 // Where each word leads, a row to a word.
-pub const EDGES: [Edge; EDGE_COUNT] = [
+// Both tables are statics: each call that reads a constant of such rows would first put all of it together.
+pub static EDGES: [Edge; EDGE_COUNT] = [
     edge!(0, TICK, 5, 0 = 1),
     edge!(0, BEGIN, 8, 0 = 2),
     edge!(0, INVOKE, 19, 0 = 3),
@@ -72,7 +73,7 @@ pub const EDGES: [Edge; EDGE_COUNT] = [
 ];
 
 // What a number does, a row to a place; at some places none stands.
-const SLOTS: [Option<Slot>; 31] = [
+static SLOTS: [Option<Slot>; 31] = [
     None,
     None,
     // 2 a, 3 c, 4 h, and the line may end

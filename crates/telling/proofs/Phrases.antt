@@ -14,7 +14,7 @@ use Rattle.rules.specs.LoopsLaws.{and_left, and_right}
 use Rattle.words.specs.Tell.{refusal_phrases, refusal_phrase}
 
 -- a test of each variant of an enum whose variants hold nothing
-abbrev every : (variants : List (List Field)) → (Choice variants → Bool) → Bool
+abbrev pub every : (variants : List (List Field)) → (Choice variants → Bool) → Bool
 every [] test = true
 every ([] ∷ more) test = test (inl tt) && every more (λ c. test (inr c))
 every ((field ∷ fields) ∷ more) test = false
@@ -28,7 +28,7 @@ every_any ([] ∷ more) test e (inr c) =
 every_any ((field ∷ fields) ∷ more) test e c = absurd (false≢true e)
 
 -- one test of all refusals
-every_refusal : (test : Refusal → Bool) → every parts (λ c. test (make c)) ≡ true → (r : Refusal) → test r ≡ true
+pub every_refusal : (test : Refusal → Bool) → every parts (λ c. test (make c)) ≡ true → (r : Refusal) → test r ≡ true
 every_refusal test e r =
     subst (λ (x : Refusal). test x ≡ true) (eta r) (every_any parts (λ c. test (make c)) e (as_values r))
 
