@@ -1,5 +1,6 @@
--- What passwrite answers by how reading stopped, and that a text of one or two bytes has no mark. Assumes nothing.
+-- What passwrite answers by how reading stopped, and what a text is without its mark. Assumes nothing.
 use Rattle.std.specs.Prelude.{Option, Some, None, MatchOption, ℕ, ◌+◌, ◌≤◌, ◌≡◌, refl, Bool, true, false, ◌&&◌, List, [], ◌∷◌, ◌++◌, eqb, length, take, drop}
+use Rattle.std.proofs.Common.{◌∙◌, ◌-◌, arith, length-drop}
 use denote.Ref.{Bor}
 use Rattle.std.specs.Option.{unwrap_or}
 use Rattle.std.specs.Cmp.Lexicographic.{pointwise}
@@ -49,3 +50,21 @@ pub mark_stripped :
 unfolding unmarked
 mark_stripped text None d e m = rw (← marked_three text, m) e
 mark_stripped text (Some x) d e m = rw (← marked_three text, m.0) m.1
+
+-- the same of what is handed back, and what stands behind the mark, or without one, however it is taken
+pub mark_left :
+    (text : List ℕ) (o : Option (Bor (List ℕ))) (d r : Bor (List ℕ)) → r ≡ unwrap_or o d → d.now ≡ text
+    → MatchOption o (pointwise eqb (take 3 text) (239 ∷ 187 ∷ 191 ∷ []) ≡ false) (λ x. (pointwise eqb (take 3 text) (239 ∷ 187 ∷ 191 ∷ []) ≡ true) × (x.now ≡ drop 3 text) × (length x.now + 3 ≡ length text))
+    → r.now ≡ unmarked text
+mark_left text o d r e n m = rw e (mark_stripped text o d n m)
+
+pub mark_some : (text : List ℕ) → pointwise eqb (take 3 text) (239 ∷ 187 ∷ 191 ∷ []) ≡ true → drop 3 text ≡ unmarked text
+unfolding unmarked
+mark_some text m = rw (← marked_three text, m)
+
+pub mark_none : (text : List ℕ) → pointwise eqb (take 3 text) (239 ∷ 187 ∷ 191 ∷ []) ≡ false → text ≡ unmarked text
+unfolding unmarked
+mark_none text m = rw (← marked_three text, m)
+
+pub mark_cut : (text : List ℕ) → pointwise eqb (take 3 text) (239 ∷ 187 ∷ 191 ∷ []) ≡ true → take (length text - 3) (drop 3 text) ≡ unmarked text
+mark_cut text m = take_all (length text - 3) (drop 3 text) (omega (arith, length-drop 3 text)) ∙ mark_some text m

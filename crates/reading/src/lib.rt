@@ -78,6 +78,7 @@ fn put_answer(page: &mut Page<'_>, text: &[u8])
 }
 
 // The text without the three bytes that may stand before it.
+#[tactic(auto, using(crate::proofs::Answering::mark_left, crate::proofs::Answering::mark_cut, crate::proofs::Answering::mark_some, crate::proofs::Answering::mark_none))]
 fn unmarked(text: &[u8]) -> &[u8]
     ensures { result.now ≡ unmarked text.now }
 {

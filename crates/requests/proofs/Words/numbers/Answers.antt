@@ -1,5 +1,5 @@
 -- Each turn of the loop stores one word's number, and a word that is no number ends it. Assumes nothing.
-use Rattle.std.proofs.Common.{rules, arith, refl, min, sym, ap, ◌∙◌, ◌≡◌}
+use Rattle.std.proofs.Common.{rules, arith, refl, sym, ◌∙◌, ◌≡◌}
 use Rattle.requests.specs.Walk.{words_left}
 use Rattle.requests.proofs.Walk.{not_then}
 use Rattle.requests.proofs.Objects.{stored_none, stored_end, stored_not, stored_more, stored_enough}
@@ -18,7 +18,7 @@ returns-in_err-number c =
 pub loop-word-preserved-then-count-lt9 : goal.loop-word-preserved-then-count-lt9
 loop-word-preserved-then-count-lt9 c =
     let loop = c.loop-word in
-    let byte : c.byte_of.result ≡ byte_of c.in-Some.word.now = c.byte_of.ensures ∙ ap (min 255) c.in_ok-number.ensures.1 in
+    let byte : c.byte_of.result ≡ byte_of c.in-Some.word.now = search rules in
     (rw byte (stored_more loop.objects loop.count _ _ c.in-Some.word.now c.in-Some.ensures c.in_ok-number.ensures.0 c.if-count-lt9.true ∙ loop.invariant.0), omega arith, search rules)
 
 pub loop-word-preserved : goal.loop-word-preserved
